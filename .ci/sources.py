@@ -1,0 +1,74 @@
+"""What the prover does not look at: the definitions import no code, no public function has a `requires` or lacks an `ensures`, each
+crate that states something has a must-fail edit, and no file names a path of one machine."""
+import pathlib
+import re
+import subprocess
+import sys
+
+faults = []
+
+
+def definitions():
+    """The protocol's definitions stand alone: they import the libraries and each other."""
+    for path in sorted(pathlib.Path('crates/protocol/specs').rglob('*.antt')):
+        for line in path.read_text().split('\n'):
+            used = re.match(r'\s*(?:pub )?use (Rattle·\S+)', line)
+            if used and not used.group(1).startswith('Rattle.protocol.specs.'):
+                faults.append(f'{path}: imports {used.group(1)}')
+            if used and '.declared.' in used.group(1):
+                faults.append(f'{path}: imports a type of the code, {used.group(1)}')
+
+
+def heads(text):
+    """The name and the clauses of each public function of a source."""
+    text = re.sub(r'//[^\n]*', '', text)
+    for found in re.finditer(r'\bpub\s+(?:extern\s+"C"\s+)?fn\s+(\w+)', text):
+        depth, at = 0, found.end()
+        while at < len(text):
+            if text[at] == '{':
+                if depth == 0 and not re.search(r'\b(requires|ensures|ghost)\s*\w*\s*$', text[found.end():at]):
+                    break
+                depth += 1
+            elif text[at] == '}':
+                depth -= 1
+            at += 1
+        yield found.group(1), text[found.end():at]
+
+
+def contracts():
+    for path in sorted(pathlib.Path('crates').glob('*/src/**/*.rt')):
+        if path.name == 'main.rt':
+            continue
+        for name, clauses in heads(path.read_text()):
+            if re.search(r'\brequires\b', clauses):
+                faults.append(f'{path}: {name} has a `requires`')
+            if not re.search(r'\bensures\b', clauses):
+                faults.append(f'{path}: {name} states nothing')
+
+
+def edits():
+    for crate in sorted(pathlib.Path('crates').iterdir()):
+        states = any(heads(p.read_text()) and re.search(r'\bensures\b', p.read_text()) for p in crate.glob('src/**/*.rt'))
+        if states and not (crate / 'src/main.rt').exists() and not list(crate.glob('must-fail/*.edit')):
+            faults.append(f'{crate}: states something and has no must-fail edit')
+
+
+def paths():
+    listed = subprocess.run(['git', 'ls-files'], capture_output=True, text=True, check=True).stdout.split('\n')
+    pattern = re.compile(r'(?<![\w.-])/(?:work|root|home|farm)/')
+    for name in filter(None, listed):
+        path = pathlib.Path(name)
+        if name == '.ci/sources.py' or not path.is_file():
+            continue
+        for number, line in enumerate(path.read_text(errors='replace').split('\n'), 1):
+            if pattern.search(line):
+                faults.append(f'{name}:{number}: a path of one machine')
+
+
+definitions()
+contracts()
+edits()
+paths()
+for fault in faults:
+    print('sources:', fault)
+sys.exit(1 if faults else 0)

@@ -1,0 +1,11 @@
+pub mod Bytes
+pub mod Decimal
+pub mod Ids
+pub mod Words
+pub mod Records
+pub mod Flags
+pub mod Features
+pub mod Messages
+pub mod Bodies
+pub mod Requests
+pub mod Trials

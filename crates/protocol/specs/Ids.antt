@@ -1,0 +1,47 @@
+-- The fifteen ids, each by its four letters (SYNC.TXT, file_sync_protocol.h), in the order of `SyncId::ALL`.
+-- Assumes nothing.
+use Prim.Native.Nat.{ℕ}
+use mathlib.Core.List.{List, [], _∷_}
+use mathlib.Core.Option.{Option, none, some}
+use Rattle.protocol.specs.Bytes.{pick, ascii, same}
+
+pub data Id : Type 0 where
+  STAT STA2 LIST LIS2 SEND SND2 RECV RCV2 DATA DONE OKAY FAIL DENT DNT2 QUIT : Id
+
+abbrev pub all : List Id
+all = STAT ∷ STA2 ∷ LIST ∷ LIS2 ∷ SEND ∷ SND2 ∷ RECV ∷ RCV2 ∷ DATA ∷ DONE ∷ OKAY ∷ FAIL ∷ DENT ∷ DNT2 ∷ QUIT ∷ []
+
+abbrev pub letters : Id → List ℕ
+letters STAT = ascii "STAT"
+letters STA2 = ascii "STA2"
+letters LIST = ascii "LIST"
+letters LIS2 = ascii "LIS2"
+letters SEND = ascii "SEND"
+letters SND2 = ascii "SND2"
+letters RECV = ascii "RECV"
+letters RCV2 = ascii "RCV2"
+letters DATA = ascii "DATA"
+letters DONE = ascii "DONE"
+letters OKAY = ascii "OKAY"
+letters FAIL = ascii "FAIL"
+letters DENT = ascii "DENT"
+letters DNT2 = ascii "DNT2"
+letters QUIT = ascii "QUIT"
+
+-- What host and panel agree on beforehand: the bytes of each id, and the longest path.
+pub record Dialect : Type 0 where
+  pub bytes : Id → List ℕ
+  pub longest : ℕ
+
+-- the one of the public documents, and document 01's limit
+abbrev pub published : Dialect
+published = record { bytes = letters; longest = 65536 }
+
+-- the first of some ids whose bytes are b
+abbrev pub among : Dialect → List Id → List ℕ → Option Id
+among d [] b = none
+among d (i ∷ is) b = pick (same (d .bytes i) b) (some i) (among d is b)
+
+-- the id that four bytes are
+unfoldable pub named : Dialect → List ℕ → Option Id
+named d b = among d all b

@@ -1,0 +1,12 @@
+pub mod Bytes
+pub mod Decimal
+pub mod Ids
+pub mod Records
+pub mod Flags
+pub mod Features
+pub mod Messages
+pub mod Requests
+pub mod Answers
+pub mod Calls
+pub mod Reader
+pub mod Trials

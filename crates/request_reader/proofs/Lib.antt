@@ -1,0 +1,4 @@
+pub mod Search
+pub mod Parts
+pub mod Text
+pub mod Steps
