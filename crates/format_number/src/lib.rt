@@ -77,6 +77,23 @@ pub fn put_u32(out: &mut [u8], off: usize, x: u32)
     out[off + 3] = (w % 256) as u8;
 }
 
+// The same with the eight bytes of x.
+pub fn put_u64(out: &mut [u8], off: usize, x: u64)
+    ensures { λ _. ⌜ now (out .exit) ≡ put (now (out .entry)) off (bytesOf 8 x) ⌝ }
+{
+    if out.len() < 8 {
+        return;
+    }
+    let last = out.len() - 8;
+    if last < off {
+        return;
+    }
+    let low = (x % 0x1_0000_0000) as u32;
+    let high = (x / 0x1_0000_0000) as u32;
+    put_u32(out, off, low);
+    put_u32(out, off + 4, high);
+}
+
 // The bytes of src over those at off; nothing where they do not fit.
 pub fn put_bytes(out: &mut [u8], off: usize, src: &[u8])
     ensures { λ _. ⌜ now (out .exit) ≡ put (now (out .entry)) off (now (src .entry)) ⌝ }

@@ -4,6 +4,7 @@ use Prim.Native.Nat.{ℕ}
 use mathlib.Core.List.{List, [], _∷_}
 use lib.IntN.{pos}
 use Rattle.protocol.specs.Records.{Stat, Dent, Stat2, Dent2, idAt, argAt}
+use Rattle.format_flags.specs.declared.FileMode.{FileMode}
 use Rattle.format_record.specs.declared.Header.{Header}
 use Rattle.format_record.specs.declared.StatV1.{StatV1}
 use Rattle.format_record.specs.declared.DentV1.{DentV1}
@@ -69,3 +70,33 @@ zeroStat2 =
 
 abbrev pub zeroDent2 : Dent2
 zeroDent2 = record { stat = zeroStat2; namelen = 0 }
+
+-- ---- the struct that tells a record: the inverse of each
+
+abbrev pub modeOf : ℕ → FileMode
+modeOf n = record { 0 = n }
+
+abbrev pub statOf : Stat → StatV1
+statOf s = record { mode = modeOf (s .mode); size = s .size; mtime = s .mtime }
+
+abbrev pub dentOf : Dent → DentV1
+dentOf d = record { stat = statOf (d .stat); namelen = d .namelen }
+
+abbrev pub stat2Of : Stat2 → StatV2
+stat2Of s =
+    record {
+      error = s .error;
+      dev = s .dev;
+      ino = s .ino;
+      mode = modeOf (s .mode);
+      nlink = s .nlink;
+      uid = s .uid;
+      gid = s .gid;
+      size = s .size;
+      atime = s .atime;
+      mtime = s .mtime;
+      ctime = s .ctime;
+    }
+
+abbrev pub dent2Of : Dent2 → DentV2
+dent2Of d = record { stat = stat2Of (d .stat); namelen = d .namelen }

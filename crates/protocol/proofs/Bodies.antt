@@ -23,6 +23,7 @@ use Rattle.protocol.specs.Requests.{Read, more, refused, request, Kind, 
 use Rattle.protocol.proofs.Bytes.{same-refl, same-eq}
 use Rattle.protocol.proofs.Decimal.{decimal-length, decimal-has-not, canonical-decimal, decimal-canonical}
 use Rattle.protocol.proofs.Ids.{Sound}
+use Rattle.protocol.proofs.Messages.{kind-path}
 use Rattle.protocol.proofs.Words.{word-fits, word-behind, number-behind, word-there, word-last}
 
 -- what the panel takes: what the host writes, and DATA of length 0
@@ -48,9 +49,6 @@ unfolding badPath
 path-was-good d p e =
     let (short, noNul) = or-false _ _ e in
     record { short = ltb-false _ _ short; noNul = noNul }
-
-pub kind-path : (i : PathOnly) → kindOf (pathId i) ≡ pathOnly i
-kind-path = elim [ stat ↦ refl | sta2 ↦ refl | list ↦ refl | lis2 ↦ refl | recv ↦ refl ]
 
 -- the tests that RCV2 and SND2 share: of the path p, of y against the inner id x, of the flags f
 tests-pass : (d : Dialect) (p x : List ℕ) (pull : Bool) (f : ℕ) → PathOk d p → refusedFlags pull f ≡ false

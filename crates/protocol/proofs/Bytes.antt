@@ -4,9 +4,10 @@ use mathlib.Core.List.{List, [], _∷_, _++_, append-assoc, append-nil}
 use mathlib.Core.Path.{_≡_, refl, sym, ap, _∙_}
 use Prim.Native.Nat.{ℕ, zero, suc, _+_, _-_, _*_, _≤_, _<_, _/_, _%_, _^_}
 use native.Mathlib.Decide.{decLe, ℕ-discrete}
-use native.Mathlib.Nat.{add-zero, zero-add, add-assoc, lt-of-not-le, pow-suc}
+use native.Mathlib.Nat.{add-zero, zero-add, suc-add, add-assoc, mul-comm, div-one, div-div-eq-div-mul, lt-of-not-le, pow-suc, one-le-pow}
 use native.Mathlib.Omega.{arith}
 use borrow.Author.Tests.{le-leb, lt-leb, eq-eqb, ne-eqb}
+use lib.Arith.{mod-mul, digits-div, digits-mod}
 use lib.ListN.{length, take, drop, getD, set, length-append, length-take, length-drop, drop-of-length-le, take-append-drop}
 use lib.Seq.{drop-cons, sets, sets-eq, paste, take-length, length-take-le, take-all, take-at, drop-append-add, drop-drop}
 use Rattle.protocol.specs.Bytes.{Bytes, same, has, le, bytesOf, numberAt, whole, over, put, putLength}
@@ -58,6 +59,23 @@ le-bytesOf zero x h = omega arith
 le-bytesOf (suc k) x h =
     let r = le-bytesOf k (x / 256) (omega (arith, pow-suc 256 k)) in
     omega (arith, r)
+
+-- the bytes of a number are those of its j low ones, then those of the rest
+pub bytesOf-add : (j k x : ℕ) → bytesOf (j + k) x ≡ bytesOf j (x % 256 ^ j) ++ bytesOf k (x / 256 ^ j)
+bytesOf-add zero k x = rw (zero-add, div-one)
+bytesOf-add (suc j) k x =
+    let m = mod-mul x {m = 256 ^ j} {c = 256} (one-le-pow j 256 (omega arith)) (omega arith) in
+    let r : x % 256 < 256 = omega arith in
+    rw (
+      suc-add,
+      pow-suc,
+      m,
+      digits-mod (x / 256 % 256 ^ j) r,
+      digits-div (x / 256 % 256 ^ j) r,
+      mul-comm (256 ^ j) 256,
+      ← div-div-eq-div-mul x 256 (256 ^ j),
+      bytesOf-add j k (x / 256),
+    )
 
 -- one byte more of a number: i is a numeral, so that i + 1 computes
 pub le-step : (k : ℕ) (s : List ℕ) (off i : ℕ) → off + i < length s
@@ -139,6 +157,14 @@ put-length b at m = go (decLe (at + length m) (length b))
     go : Dec (at + length m ≤ length b) → length (put b at m) ≡ length b
     go (yes h) = rw (put-in b at m h) (over-length b at m h)
     go (no f) = rw (put-out b at m (lt-of-not-le f))
+
+-- what is put behind what was put is put with it
+pub put-put : (b : List ℕ) (at next : ℕ) (m n : List ℕ) → at + length m ≡ next → next + length n ≤ length b
+    → put (put b at m) next n ≡ put b at (m ++ n)
+put-put b at next m n e h =
+    let l = over-length b at m (omega arith) in
+    rw (put-in b at m (omega arith), put-in (over b at m) next n (omega arith), put-in b at (m ++ n) (omega (arith, length-append m n)), ← e)
+    (over-over b at m (omega arith) n)
 
 -- the end of a buffer from t on, lent and come back
 module _ (b : List ℕ) (t : ℕ) (within : t ≤ length b) where

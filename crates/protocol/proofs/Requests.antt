@@ -16,7 +16,8 @@ use Rattle.protocol.specs.Ids.{Id, STAT, STA2, LIST, LIS2, SEND, SND2, R
 use Rattle.protocol.specs.Messages.{PathOnly, stat, sta2, list, lis2, recv, pathId, Request, chunk, word, messageOf, joined, bytesOfRequest, HostWrites}
 use Rattle.protocol.specs.Records.{headerSize, idAt, argAt}
 use Rattle.protocol.specs.Requests.{Read, more, refused, request, kindOf, argOk, following, bodyOf, onId, readRequest}
-use Rattle.protocol.proofs.Bodies.{Taken, pick-cases, kind-path, Reads, reads, Means, means}
+use Rattle.protocol.proofs.Bodies.{Taken, pick-cases, Reads, reads, Means, means}
+use Rattle.protocol.proofs.Messages.{kind-path}
 use Rattle.protocol.proofs.Bytes.{bytes-drop}
 use Rattle.protocol.proofs.Ids.{Sound, named-own, named-sound}
 use Rattle.protocol.proofs.Words.{bytes-take, word-fits, word-behind, word-there}

@@ -17,7 +17,7 @@ bytes-take (suc k) (x ∷ s) b zero = b 0
 bytes-take (suc k) (x ∷ s) b (suc i) = bytes-take k s (bytes-tail x s b) i
 
 -- a number of k bytes
-le-below : (k : ℕ) (s : List ℕ) → Bytes s → le (take k s) < 256 ^ k
+pub le-below : (k : ℕ) (s : List ℕ) → Bytes s → le (take k s) < 256 ^ k
 le-below zero s b = omega arith
 le-below (suc k) [] b = omega (arith, le-below k [] b)
 le-below (suc k) (x ∷ s) b = omega (arith, bytes-head x s b, le-below k s (bytes-tail x s b))

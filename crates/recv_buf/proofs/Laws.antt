@@ -120,7 +120,7 @@ module _ (b : List ℕ) (at : ℕ) (m : List ℕ) (fits : at + length m ≤ leng
   unfolding over
   over-before = rw append-assoc (take-at (take at b) (m ++ drop (at + length m) b) at before-length)
 
-  over-there : take (length m) (drop at (over b at m)) ≡ m
+  pub over-there : take (length m) (drop at (over b at m)) ≡ m
   unfolding over
   over-there = rw (append-assoc, drop-at (take at b) (m ++ drop (at + length m) b) at before-length) (take-append-seam m (drop (at + length m) b))
 

@@ -1,0 +1,297 @@
+-- What a session does between two reports keeps the widths: from a session whose numbers fit their fields and whose held bytes are bytes it
+-- leaves such a session, and a reply whose numbers fit theirs. A read is asked at tail.
+-- Assumes nothing.
+use Prim.Native.Nat.{ℕ, zero, suc, _+_, _≤_, _<_, _^_}
+use mathlib.Core.Bool.{Bool, true, false, true≢false}
+use mathlib.Core.List.{List, [], _∷_}
+use mathlib.Core.Path.{_≡_, refl, sym, ap, subst}
+use native.Mathlib.Omega.{arith}
+use borrow.Author.Tests.{ltb-false, leb-true}
+use lib.Dec.{eqb, ltb, leb}
+use lib.ListN.{length, getD, take, drop, length-take, length-drop}
+use Rattle.protocol.specs.Bytes.{Bytes, pick, over, put}
+use Rattle.protocol.specs.Ids.{published}
+use Rattle.protocol.specs.Messages.{bytesOfRequest, dataMost}
+use Rattle.protocol.proofs.Bodies.{pick-cases}
+use Rattle.protocol.proofs.Bytes.{bytes-drop, over-length, put-in}
+use Rattle.protocol.proofs.Words.{bytes-take}
+use Rattle.piece.specs.Pieces.{partsOf, pieceList, pieceOf}
+use Rattle.piece.specs.declared.Piece.{Piece}
+use Rattle.piece.specs.declared.Piece.the-variants as P
+use Rattle.record.specs.Narrow.{U32, U64, NarrowPhase, NarrowRequest, NarrowPending, Narrow}
+use Rattle.recv_buf.specs.RecvBuf.{heldCount}
+use Rattle.recv_buf.proofs.Laws.{window-keeps}
+use Rattle.request.specs.Meaning.{meant}
+use Rattle.request.specs.declared.Request.{Request}
+use Rattle.request.specs.declared.Request.the-variants as Q
+use Rattle.session.specs.declared.Answer.{Answer}
+use Rattle.session.specs.declared.Answer.the-variants as A
+use Rattle.session.specs.declared.Pending.{Pending}
+use Rattle.session.specs.declared.Pending.the-variants.{Idle, Writing}
+use Rattle.session.specs.declared.Phase.{Phase}
+use Rattle.session.specs.declared.Phase.the-variants.{Header}
+use Rattle.session.specs.declared.Reply.{Reply}
+use Rattle.session.specs.declared.Reply.the-variants as R
+use Rattle.session.specs.declared.Session.{Session}
+use Rattle.session.specs.declared.Then.{Then}
+use Rattle.session.specs.declared.Then.the-variants.{Stop, Go}
+use Rattle.session.specs.declared.Version.the-variants.{V1, V2}
+use Rattle.session.specs.declared.Want.the-variants as W
+use Rattle.session.specs.Phases.{wants}
+use Rattle.session.specs.State.{St, st, Out, out, half, beside, stepped, at, Good}
+use Rattle.session.specs.Steps.{reading, asked, onHop, turned, followed, turnOf, hopped, pumped, tidied, isData, carried, pieceReply, sendPiece, messageOut, sent, told, closingOut, resumed, isEnd, wroteOn}
+use Rattle.session.proofs.Buf.{sound-of, good-at, good-tidied, held-tidied, held-dropped, kept-length, view}
+use Rattle.session.proofs.Turns.{held}
+use Rattle.session.proofs.Writes.{Sent, pieces-sent}
+use Rattle.boundary.specs.Crossing.{isRefusal}
+use Rattle.boundary.proofs.Narrow.{NarrowPiece, NarrowReply, Given, NarrowThen, Fit, turn-fit, wants-below}
+
+-- ---- what is kept
+
+-- a session that fits buffers as long as slices can be, and its fields; what it holds are bytes
+pub record Inv (s : St) : Type 0 where
+  pub good : Good s
+  pub wide : s .ses .message < 2 ^ 63
+  pub lent : U64 (s .ses .lent)
+  pub pending : NarrowPending (s .ses .pending)
+  pub bytes : Bytes (held s)
+
+pub narrow-of : (s : St) → Inv s → Narrow (s .ses)
+narrow-of s x =
+    record { capacity = omega (arith, x .good); message = omega arith; head = omega (arith, x .good); tail = omega (arith, x .good); lent = x .lent; pending = x .pending }
+
+-- a read is asked at tail
+abbrev Window : Session → Reply → Type 0
+Window s (R.Told a) = Unit {0}
+Window s (R.Read i n) = i ≡ s .buf .tail
+Window s (R.WriteRx i n) = Unit {0}
+Window s (R.WriteLent i n) = Unit {0}
+Window s (R.WriteBytes p) = Unit {0}
+Window s R.Close = Unit {0}
+
+-- what a step that began with the session s₀ leaves
+pub record Fine (s₀ : Session) (o : Out) : Type 0 where
+  pub inv : Inv (o .st)
+  pub reply : NarrowReply (o .reply)
+  pub window : Window (o .st .ses) (o .reply)
+  pub same : pick (isRefusal (o .reply)) s₀ (o .st .ses) ≡ o .st .ses
+
+pub inv-pending : (s : St) (p : Pending) → Inv s → NarrowPending p → Inv (st (at (s .ses) (s .ses .buf) p) (s .rx) (s .msg))
+inv-pending s p x n = record { good = omega (arith, x .good); wide = x .wide; lent = x .lent; pending = n; bytes = x .bytes }
+
+pub inv-tidied : (s : St) → Inv s → Inv (tidied s)
+inv-tidied s x =
+    record { good = good-tidied s (x .good); wide = x .wide; lent = x .lent; pending = tt; bytes = subst Bytes (sym (held-tidied s (x .good))) (x .bytes) }
+
+-- ---- the pieces of a message
+
+abbrev AllNarrow : List Piece → Type 0
+AllNarrow [] = Unit {0}
+AllNarrow (p ∷ ps) = NarrowPiece p × AllNarrow ps
+
+-- with the lent part or without
+rest-narrow : (b : Bool) (l : List Piece) → AllNarrow l → AllNarrow (pick b (drop 1 l) l)
+rest-narrow false l h = h
+rest-narrow true [] h = tt
+rest-narrow true (p ∷ l) h = h .1
+
+pieces-narrow : (q : Request) → NarrowRequest q → (n : ℕ) → AllNarrow (pieceList q n)
+unfolding pieceList
+pieces-narrow Q.Stat r n = (tt, rest-narrow (eqb n 0) (partsOf Q.Stat) (tt, tt))
+pieces-narrow Q.Sta2 r n = (tt, rest-narrow (eqb n 0) (partsOf Q.Sta2) (tt, tt))
+pieces-narrow Q.List r n = (tt, rest-narrow (eqb n 0) (partsOf Q.List) (tt, tt))
+pieces-narrow Q.Lis2 r n = (tt, rest-narrow (eqb n 0) (partsOf Q.Lis2) (tt, tt))
+pieces-narrow Q.Recv r n = (tt, rest-narrow (eqb n 0) (partsOf Q.Recv) (tt, tt))
+pieces-narrow (Q.Rcv2 f) r n = (tt, rest-narrow (eqb n 0) (partsOf (Q.Rcv2 f)) (tt, (tt, (tt, tt))))
+pieces-narrow (Q.Send m) r n = (tt, rest-narrow (eqb n 0) (partsOf (Q.Send m)) (tt, (tt, (r, tt))))
+pieces-narrow (Q.Snd2 m f) r n = (tt, rest-narrow (eqb n 0) (partsOf (Q.Snd2 m f)) (tt, (tt, (tt, (tt, tt)))))
+pieces-narrow Q.Data r n = (tt, rest-narrow (eqb n 0) (partsOf Q.Data) (tt, tt))
+pieces-narrow (Q.Done t) r n = (tt, rest-narrow (eqb n 0) (partsOf (Q.Done t)) tt)
+pieces-narrow Q.Quit r n = (tt, rest-narrow (eqb n 0) (partsOf Q.Quit) tt)
+
+piece-narrow : (q : Request) → NarrowRequest q → (n k : ℕ) → NarrowPiece (pieceOf q n k)
+unfolding pieceOf
+piece-narrow q r n k = go (pieceList q n) k (pieces-narrow q r n)
+  where
+    go : (l : List Piece) (k : ℕ) → AllNarrow l → NarrowPiece (getD l k P.End)
+    go [] k h = tt
+    go (p ∷ l) zero h = h .0
+    go (p ∷ l) (suc k) h = go l k (h .1)
+
+-- one that goes out is one of the first five
+piece-early : (q : Request) (n k : ℕ) → isEnd (pieceOf q n k) ≡ false → k < 5
+unfolding pieceOf
+piece-early q n k e = go (pieceList q n) 5 k (pieces-sent q n) e
+  where
+    go : (l : List Piece) (m k : ℕ) → Sent m l → isEnd (getD l k P.End) ≡ false → k < m
+    go [] m k h e = absurd (true≢false e)
+    go (p ∷ l) zero k h e = absurd h
+    go (p ∷ l) (suc m) zero h e = omega arith
+    go (p ∷ l) (suc m) (suc k) h e = omega (arith, go l m k (h .1) e)
+
+module _ (s₀ : Session) where
+  -- ---- reading
+
+  reading-fine : (s : St) (p : Phase) (lost : Bool) → Inv s → NarrowPhase p
+      → Fine s₀ (beside (half (reading (s .ses) (s .ses .buf .head) (s .ses .buf .tail) p lost) (s .rx)) (s .msg))
+  reading-fine s p lost x n =
+      let g = x .good in
+      let w = wants-below (s .ses .capacity) p n (omega arith) in
+      record { inv = inv-pending s _ x (n, omega arith); reply = omega arith; window = refl; same = refl }
+
+  asked-fine : (s : St) (p : Phase) (lost : Bool) → Inv s → NarrowPhase p → Fine s₀ (beside (asked (s .ses) (s .rx) p lost) (s .msg))
+  unfolding asked
+  asked-fine s p lost x n =
+      pick-cases (λ h. Fine s₀ (beside h (s .msg))) (ltb (s .ses .buf .tail) (s .ses .capacity))
+      (λ e. reading-fine s p lost x n) (λ e. reading-fine (tidied s) p lost (inv-tidied s x) n)
+
+  pub told-fine : (s : St) (a : Answer) → Inv s → Given a → Fine s₀ (told s a)
+  told-fine s a x g =
+      record { inv = inv-pending s Idle x tt; reply = g .0; window = tt; same = ap (λ (b : Bool). pick b s₀ (at (s .ses) (s .ses .buf) Idle)) (g .1) }
+
+  module _ (s : St) (p : Phase) (x : Inv s) (n : NarrowPhase p) (l : wants (s .ses .capacity) p ≤ heldCount (s .ses .buf)) where
+    fit : Fit (s .ses .capacity) p (turnOf s p)
+    fit =
+        let g = x .good in
+        turn-fit (s .ses .capacity) (s .rx) (s .ses .buf .head) (omega arith) (omega arith) p n (omega arith)
+        (subst Bytes (view s g (wants (s .ses .capacity) p) l) (bytes-take (wants (s .ses .capacity) p) (held s) (x .bytes)))
+
+    inv-turned : Inv (turned s (turnOf s p))
+    inv-turned =
+        let g = x .good in
+        let d = fit .drops in
+        let k = fit .keeps in
+        record {
+          good = good-at s _ (s .rx) ((turned s (turnOf s p)) .msg) Idle g (omega arith) (g .inside) refl
+              (kept-length (s .rx) (s .msg) (s .ses .buf .head) ((turnOf s p) .keeps) (omega arith) (omega arith));
+          wide = x .wide;
+          lent = x .lent;
+          pending = tt;
+          bytes = subst Bytes (sym (held-dropped s g ((turnOf s p) .drops) (omega arith))) (bytes-drop ((turnOf s p) .drops) (held s) (x .bytes));
+        }
+
+  follow-fine : (k : St → Phase → Out) (s : St) (t : Then) → Inv s → NarrowThen t → ((p : Phase) → NarrowPhase p → Fine s₀ (k s p))
+      → Fine s₀ (onHop k (followed s t))
+  follow-fine k s (Stop a) x n ih = told-fine s a x n
+  follow-fine k s (Go p) x n ih = ih p n
+
+  hop-fine : (k : St → Phase → Out) (s : St) (p : Phase) (lost : Bool) → Inv s → NarrowPhase p
+      → ((s′ : St) (q : Phase) → Inv s′ → NarrowPhase q → Fine s₀ (k s′ q)) → Fine s₀ (onHop k (hopped s p lost))
+  unfolding hopped
+  hop-fine k s p lost x n ih =
+      pick-cases (λ h. Fine s₀ (onHop k h)) (ltb (s .ses .capacity) (wants (s .ses .capacity) p))
+      (λ e. told-fine s A.TooLarge x (tt, refl))
+      (λ e. pick-cases (λ h. Fine s₀ (onHop k h)) (ltb (heldCount (s .ses .buf)) (wants (s .ses .capacity) p))
+      (λ f. asked-fine s p lost x n)
+      (λ f. let l = ltb-false _ _ f in
+      follow-fine k (turned s (turnOf s p)) ((turnOf s p) .then) (inv-turned s p x n l) ((fit s p x n l) .then)
+      (λ q m. ih (turned s (turnOf s p)) q (inv-turned s p x n l) m)))
+
+  pub pump-fine : (f : ℕ) (s : St) (p : Phase) (lost : Bool) → Inv s → NarrowPhase p → Fine s₀ (pumped f s p lost)
+  unfolding pumped
+  pump-fine zero s p lost x n = asked-fine s p lost x n
+  pump-fine (suc f) s p lost x n = hop-fine (λ s′ q. pumped f s′ q lost) s p lost x n (λ s′ q x′ n′. pump-fine f s′ q lost x′ n′)
+
+  -- ---- writing
+
+  piece-fine : (s : St) (q : Request) (from n k : ℕ) → Inv s → NarrowRequest q → U64 from → U64 n → U64 (k + 1)
+      → Fine s₀ (out (sendPiece (s .ses) q from n k) (s .rx) (s .msg))
+  piece-fine s q from n k x r f h i = go (pieceOf q n k) (piece-narrow q r n k)
+    where
+      y : Inv (st (at (s .ses) (s .ses .buf) (Writing q from (k + 1))) (s .rx) (s .msg))
+      y = inv-pending s _ x (r, (f, i))
+
+      go : (p : Piece) → NarrowPiece p
+          → Fine s₀ (out (stepped (at (s .ses) (s .ses .buf) (Writing q from (k + 1))) (pieceReply from n p)) (s .rx) (s .msg))
+      go (P.Header id arg) m = record { inv = y; reply = m; window = tt; same = refl }
+      go P.Lent m = record { inv = y; reply = (f, h); window = tt; same = refl }
+      go P.Comma m = record { inv = y; reply = m; window = tt; same = refl }
+      go (P.Digits d) m = record { inv = y; reply = m; window = tt; same = refl }
+      go (P.Inner id) m = record { inv = y; reply = m; window = tt; same = refl }
+      go (P.Word z) m = record { inv = y; reply = m; window = tt; same = refl }
+      go P.End m = record { inv = y; reply = m; window = tt; same = refl }
+
+  message-fine : (s : St) (q : Request) (from : ℕ) (part : List ℕ) → Inv s → NarrowRequest q → U64 from → U64 (length part)
+      → Fine s₀ (beside (messageOut (s .ses) (s .rx) q from part) (s .msg))
+  unfolding messageOut
+  message-fine s q from part x r f h =
+      pick-cases (λ y. Fine s₀ (beside y (s .msg))) (leb (t .ses .buf .tail + length m) (length (t .rx)))
+      (λ e. whole (leb-true _ _ e)) (λ e. piece-fine t q from (length part) 0 (inv-tidied s x) r f h (omega arith))
+    where
+      t : St
+      t = tidied s
+
+      m : List ℕ
+      m = bytesOfRequest published (meant q part)
+
+      whole : t .ses .buf .tail + length m ≤ length (t .rx)
+          → Fine s₀ (beside
+          (half (stepped (at (s .ses) (t .ses .buf) (Writing q from 0)) (R.WriteRx (t .ses .buf .tail) (length m))) (put (t .rx) (t .ses .buf .tail) m))
+          (s .msg))
+      whole l =
+          let g : Good t = good-tidied s (x .good) in
+          let y : Inv t = inv-tidied s x in
+          rw (put-in (t .rx) (t .ses .buf .tail) m l)
+          (record {
+            inv = record {
+              good = good-at t (t .ses .buf) (over (t .rx) (t .ses .buf .tail) m) (s .msg) _ g (g .order) (g .inside) (over-length (t .rx) (t .ses .buf .tail) m l) refl;
+              wide = x .wide;
+              lent = x .lent;
+              pending = (r, (f, omega arith));
+              bytes = subst Bytes (sym (window-keeps (t .rx) (t .ses .buf) (sound-of t g) m l)) (y .bytes);
+            };
+            reply = omega arith;
+            window = tt;
+            same = refl;
+          })
+
+  pub sent-fine : (s : St) (q : Request) (from : ℕ) (part : List ℕ) → Inv s → NarrowRequest q → U64 from → U64 (length part)
+      → Fine s₀ (beside (sent (s .ses) (s .rx) q from part) (s .msg))
+  unfolding sent
+  sent-fine s Q.Stat from part x r f h = message-fine s Q.Stat from part x r f h
+  sent-fine s Q.Sta2 from part x r f h = message-fine s Q.Sta2 from part x r f h
+  sent-fine s Q.List from part x r f h = message-fine s Q.List from part x r f h
+  sent-fine s Q.Lis2 from part x r f h = message-fine s Q.Lis2 from part x r f h
+  sent-fine s Q.Recv from part x r f h = message-fine s Q.Recv from part x r f h
+  sent-fine s (Q.Rcv2 y) from part x r f h = message-fine s (Q.Rcv2 y) from part x r f h
+  sent-fine s (Q.Send m) from part x r f h = message-fine s (Q.Send m) from part x r f h
+  sent-fine s (Q.Snd2 m y) from part x r f h = message-fine s (Q.Snd2 m y) from part x r f h
+  sent-fine s Q.Data from part x r f h =
+      pick-cases (λ y. Fine s₀ (beside y (s .msg))) (eqb (length part) 0) (λ e. told-fine s A.Done x (tt, refl)) (λ e. message-fine s Q.Data from part x r f h)
+  sent-fine s (Q.Done t) from part x r f h = piece-fine s (Q.Done t) 0 0 0 x r (omega arith) (omega arith) (omega arith)
+  sent-fine s Q.Quit from part x r f h = piece-fine s Q.Quit 0 0 0 x r (omega arith) (omega arith) (omega arith)
+
+  pub closing-fine : (s : St) (failed : Bool) (code : ℕ) → Inv s → U32 code → Fine s₀ (closingOut s failed code)
+  closing-fine s failed code x n = record { inv = inv-pending s _ x n; reply = tt; window = tt; same = refl }
+
+  -- a message was accepted whole, or a piece of it; lent is what the call lends
+  module _ (s : St) (from : ℕ) (lent : List ℕ) (x : Inv s) (f : U64 from) (h : U64 (length lent)) where
+    resumed-fine : (q : Request) → Fine s₀ (resumed s q from lent)
+    unfolding resumed carried
+    resumed-fine Q.Stat = pump-fine 4 s (Header (W.Stat V1)) false x tt
+    resumed-fine Q.Sta2 = pump-fine 4 s (Header (W.Stat V2)) false x tt
+    resumed-fine Q.List = told-fine s A.Done x (tt, refl)
+    resumed-fine Q.Lis2 = told-fine s A.Done x (tt, refl)
+    resumed-fine Q.Recv = told-fine s A.Done x (tt, refl)
+    resumed-fine (Q.Rcv2 y) = told-fine s A.Done x (tt, refl)
+    resumed-fine (Q.Send m) = told-fine s A.Done x (tt, refl)
+    resumed-fine (Q.Snd2 m y) = told-fine s A.Done x (tt, refl)
+    resumed-fine Q.Data =
+        let n : ℕ = from + length (take dataMost (drop from lent)) in
+        sent-fine s Q.Data n (take dataMost (drop n lent)) x tt
+        (omega (arith, length-take dataMost (drop from lent), length-drop from lent)) (omega (arith, length-take dataMost (drop n lent), length-drop n lent))
+    resumed-fine (Q.Done t) = pump-fine 4 (tidied s) (Header W.Okay) false (inv-tidied s x) tt
+    resumed-fine Q.Quit = closing-fine s false 0 x (omega arith)
+
+    pub carried-fits : (q : Request) → U64 (length (carried q from lent))
+    unfolding carried
+    carried-fits q =
+        let m : U64 (length (take dataMost (drop from lent))) = omega (arith, length-take dataMost (drop from lent), length-drop from lent) in
+        pick-cases (λ (l : List ℕ). U64 (length l)) (isData q) (λ e. m) (λ e. h)
+
+    pub wrote-on-fine : (q : Request) (k : ℕ) → NarrowRequest q → Fine s₀ (wroteOn s q from k lent)
+    unfolding wroteOn
+    wrote-on-fine q k r =
+        pick-cases (Fine s₀) (eqb k 0) (λ e. resumed-fine q)
+        (λ e. pick-cases (Fine s₀) (isEnd (pieceOf q (length (carried q from lent)) k)) (λ g. resumed-fine q)
+        (λ g. piece-fine s q from (length (carried q from lent)) k x r f (carried-fits q) (omega (arith, piece-early q (length (carried q from lent)) k g))))

@@ -1,0 +1,4 @@
+pub mod Told
+pub mod Crossing
+pub mod Heard
+pub mod Boundary

@@ -1,0 +1,306 @@
+// The phases of a session: how many bytes each wants, and the turn it takes once they are held (000's sync/sync.rs).
+ghost use mathlib.Core.Path.{_≡_};
+ghost use Prim.Native.Nat.{_+_, _≤_, min, max};
+ghost use lib.ListN.{length, drop};
+ghost use Rattle.protocol.specs.Bytes.{le};
+ghost use Rattle.protocol.specs.Ids.{letters};
+ghost use Rattle.protocol.specs.Records.{idAt, argAt, u32At};
+ghost use Rattle.session.specs.Phases.{wants, statSizeOf, entrySizeOf, stopping, going, strange, statIdOf, entryIdOf, proceed, headed, statTurn, entryTurn, drained, turnAt, turnIn};
+use format_number::u32_at;
+use format_record::DENT_V1_SIZE;
+use format_record::DENT_V2_SIZE;
+use format_record::HEADER_SIZE;
+use format_record::STAT_V1_SIZE;
+use format_record::STAT_V2_SIZE;
+use format_record::dent_v1_at;
+use format_record::dent_v2_at;
+use format_record::stat_v1_at;
+use format_record::stat_v2_at;
+use session::Answer;
+use session::Phase;
+use session::Then;
+use session::Turn;
+use session::Version;
+use session::Want;
+
+// The numbers that the letters of an id spell, the first letter lowest.
+const STAT: u32 = 0x5441_5453;
+
+const STA2: u32 = 0x3241_5453;
+
+const DATA: u32 = 0x4154_4144;
+
+const DONE: u32 = 0x454e_4f44;
+
+const OKAY: u32 = 0x5941_4b4f;
+
+const FAIL: u32 = 0x4c49_4146;
+
+const DENT: u32 = 0x544e_4544;
+
+const DNT2: u32 = 0x3254_4e44;
+
+fn smaller(a: usize, b: usize) -> usize
+    ensures { λ r. ⌜ r ≡ min a b ⌝ }
+{
+    if a < b { a } else { b }
+}
+
+fn stat_size(v: Version) -> usize
+    ensures { λ r. ⌜ r ≡ statSizeOf v ⌝ }
+{
+    match v {
+        Version::V1 => STAT_V1_SIZE,
+        Version::V2 => STAT_V2_SIZE,
+    }
+}
+
+fn entry_size(v: Version) -> usize
+    ensures { λ r. ⌜ r ≡ entrySizeOf v ⌝ }
+{
+    match v {
+        Version::V1 => DENT_V1_SIZE,
+        Version::V2 => DENT_V2_SIZE,
+    }
+}
+
+// How many bytes a phase wants.
+pub fn wants(capacity: usize, p: Phase) -> usize
+    ensures { λ r. ⌜ r ≡ wants capacity p ⌝ }
+    ensures { λ r. ⌜ r ≤ max capacity 0x1_0000_0007 ⌝ }
+{
+    match p {
+        Phase::Header(_) => HEADER_SIZE,
+        Phase::Stat(v) => stat_size(v),
+        Phase::Entry(v) => entry_size(v),
+        Phase::Last(v) => entry_size(v),
+        Phase::NameV1(d) => d.namelen as usize,
+        Phase::NameV2(d) => d.namelen as usize,
+        Phase::Body(n) => HEADER_SIZE + (n as usize),
+        Phase::Text(n) => smaller(n as usize, capacity),
+        Phase::Rest { left, text: _ } => smaller(left, capacity),
+    }
+}
+
+fn stops(drops: usize, a: Answer) -> Turn
+    ensures { λ r. ⌜ r ≡ stopping drops a ⌝ }
+{
+    Turn {
+        drops,
+        keeps: 0,
+        then: Then::Stop(a),
+    }
+}
+
+fn goes(drops: usize, p: Phase) -> Turn
+    ensures { λ r. ⌜ r ≡ going drops p ⌝ }
+{
+    Turn {
+        drops,
+        keeps: 0,
+        then: Then::Go(p),
+    }
+}
+
+// ---- a header
+
+fn stat_id(v: Version) -> u32
+    ensures { λ r. ⌜ r ≡ le (letters (statIdOf v)) ⌝ }
+{
+    match v {
+        Version::V1 => STAT,
+        Version::V2 => STA2,
+    }
+}
+
+fn entry_id(v: Version) -> u32
+    ensures { λ r. ⌜ r ≡ le (letters (entryIdOf v)) ⌝ }
+{
+    match v {
+        Version::V1 => DENT,
+        Version::V2 => DNT2,
+    }
+}
+
+// An id that is not allowed: the header is left.
+fn unexpected(rx: &[u8], head: usize) -> Turn
+    requires { ⌜ head + 4 ≤ length (now rx) ⌝ }
+    ensures { λ r. ⌜ r ≡ strange (idAt (drop head (now (rx .entry)))) ⌝ }
+{
+    let a = rx[head];
+    let b = rx[head + 1];
+    let c = rx[head + 2];
+    let d = rx[head + 3];
+    stops(0, Answer::Unexpected(a, b, c, d))
+}
+
+// A header that is no FAIL; id and arg are its numbers.
+fn proceeds(w: Want, id: u32, arg: u32, rx: &[u8], head: usize) -> Turn
+    requires { ⌜ (head + 4 ≤ length (now rx)) × (id ≡ u32At 0 (drop head (now rx))) ⌝ }
+    ensures { λ r. ⌜ r ≡ proceed w (idAt (drop head (now (rx .entry)))) arg ⌝ }
+{
+    match w {
+        Want::Stat(v) => {
+            if id == stat_id(v) {
+                return goes(0, Phase::Stat(v));
+            }
+            unexpected(rx, head)
+        }
+        Want::Entry(v) => {
+            if id == entry_id(v) {
+                return goes(0, Phase::Entry(v));
+            }
+            if id == DONE {
+                return goes(0, Phase::Last(v));
+            }
+            unexpected(rx, head)
+        }
+        Want::Chunk => {
+            if id == DATA {
+                return goes(0, Phase::Body(arg));
+            }
+            if id == DONE {
+                return stops(HEADER_SIZE, Answer::End);
+            }
+            unexpected(rx, head)
+        }
+        Want::Okay => {
+            if id == OKAY {
+                return stops(HEADER_SIZE, Answer::Done);
+            }
+            unexpected(rx, head)
+        }
+        Want::Nothing => stops(0, Answer::Closed),
+    }
+}
+
+fn header(w: Want, rx: &[u8], head: usize) -> Turn
+    requires { ⌜ head + 8 ≤ length (now rx) ⌝ }
+    ensures { λ r. ⌜ r ≡ headed w (idAt (drop head (now (rx .entry)))) (argAt (drop head (now (rx .entry)))) ⌝ }
+{
+    let id = u32_at(rx, head);
+    let arg = u32_at(rx, head + 4);
+    if id == FAIL {
+        return goes(HEADER_SIZE, Phase::Text(arg));
+    }
+    proceeds(w, id, arg, rx, head)
+}
+
+// ---- the other phases
+
+fn stat(v: Version, rx: &[u8], head: usize) -> Turn
+    requires { ⌜ head + statSizeOf v ≤ length (now rx) ⌝ }
+    ensures { λ r. ⌜ r ≡ statTurn v (drop head (now (rx .entry))) ⌝ }
+{
+    match v {
+        Version::V1 => stops(STAT_V1_SIZE, Answer::StatV1(stat_v1_at(rx, head))),
+        Version::V2 => {
+            let s = stat_v2_at(rx, head);
+            let error = s.error;
+            if error == 0 {
+                return stops(STAT_V2_SIZE, Answer::StatV2(s));
+            }
+            stops(STAT_V2_SIZE, Answer::Errno(error))
+        }
+    }
+}
+
+fn entry(v: Version, rx: &[u8], head: usize) -> Turn
+    requires { ⌜ head + entrySizeOf v ≤ length (now rx) ⌝ }
+    ensures { λ r. ⌜ r ≡ entryTurn v (drop head (now (rx .entry))) ⌝ }
+{
+    match v {
+        Version::V1 => goes(DENT_V1_SIZE, Phase::NameV1(dent_v1_at(rx, head))),
+        Version::V2 => goes(DENT_V2_SIZE, Phase::NameV2(dent_v2_at(rx, head))),
+    }
+}
+
+// A part of a FAIL text is dropped, and its beginning kept.
+fn drains(drops: usize, keeps: usize, left: usize, text: usize) -> Turn
+    ensures { λ r. ⌜ r ≡ drained drops keeps left text ⌝ }
+{
+    if left == 0 {
+        return Turn {
+            drops,
+            keeps,
+            then: Then::Stop(Answer::Fail(text)),
+        };
+    }
+    Turn {
+        drops,
+        keeps,
+        then: Then::Go(Phase::Rest { left, text }),
+    }
+}
+
+// The turn at a phase whose bytes are held from head on.
+fn turn(capacity: usize, p: Phase, rx: &[u8], head: usize) -> Turn
+    requires { ⌜ head + wants capacity p ≤ length (now rx) ⌝ }
+    ensures { λ r. ⌜ r ≡ turnAt capacity p (now (rx .entry)) head ⌝ }
+{
+    match p {
+        Phase::Header(w) => header(w, rx, head),
+        Phase::Stat(v) => stat(v, rx, head),
+        Phase::Entry(v) => entry(v, rx, head),
+        Phase::Last(v) => {
+            let size = entry_size(v);
+            stops(size, Answer::End)
+        }
+        Phase::NameV1(d) => {
+            let len = d.namelen as usize;
+            let stat = d.stat;
+            stops(
+                len,
+                Answer::EntryV1 {
+                    stat,
+                    at: head,
+                    len,
+                },
+            )
+        }
+        Phase::NameV2(d) => {
+            let len = d.namelen as usize;
+            let stat = d.stat;
+            stops(
+                len,
+                Answer::EntryV2 {
+                    stat,
+                    at: head,
+                    len,
+                },
+            )
+        }
+        Phase::Body(n) => {
+            let len = n as usize;
+            let drops = HEADER_SIZE + len;
+            let at = head + HEADER_SIZE;
+            stops(drops, Answer::Chunk { at, len })
+        }
+        Phase::Text(n) => {
+            let whole = n as usize;
+            let m = smaller(whole, capacity);
+            let left = whole - m;
+            drains(m, m, left, m)
+        }
+        Phase::Rest { left, text } => {
+            let m = smaller(left, capacity);
+            let after = left - m;
+            drains(m, 0, after, text)
+        }
+    }
+}
+
+// The turn at a phase; nothing where its bytes are not there.
+pub fn turn_at(capacity: usize, p: Phase, rx: &[u8], head: usize) -> Turn
+    ensures { λ r. ⌜ r ≡ turnIn capacity p (now (rx .entry)) head ⌝ }
+{
+    let n = wants(capacity, p);
+    if rx.len() < n {
+        return stops(0, Answer::TooLarge);
+    }
+    let last = rx.len() - n;
+    if last < head {
+        return stops(0, Answer::TooLarge);
+    }
+    turn(capacity, p, rx, head)
+}

@@ -1,0 +1,60 @@
+-- `record_store::put_request` meets its contract: each arm puts the registers of its request. Assumes nothing.
+use Rattle.record.specs.Fields.{requestNumbers}
+use Rattle.record_store.proofs.Puts.{registers-of}
+use borrow.Author.Needs.{needs}
+use Rattle.record_store.proofs.put_request.Statement.{statement}
+use Rattle.record_store.proofs.put_request.Tie as tie
+
+pub put-request-spec : {M : Type 1} → statement M
+put-request-spec =
+    tie.close
+    (tie.spec
+    (λ c. search needs)
+    (λ c κs. search needs)
+    (λ c. search needs)
+    (λ c κs. search needs)
+    (λ c. search needs)
+    (λ c κs. search needs)
+    (λ c. search needs)
+    (λ c κs. search needs)
+    (λ c. search needs)
+    (λ c κs. search needs)
+    (λ c. search needs)
+    (λ c. search needs)
+    (λ c κs. search needs)
+    (λ c. search needs)
+    (λ c. search needs)
+    (λ c κs. search needs)
+    (λ c. search needs)
+    (λ c. search needs)
+    (λ c. search needs)
+    (λ c κs. search needs)
+    (λ c. search needs)
+    (λ c κs. search needs)
+    (λ c. search needs)
+    (λ c. search needs)
+    (λ c κs. search needs)
+    (λ c. search needs)
+    (λ c κs. search needs)
+    (λ c. search needs)
+    (λ c. registers-of requestNumbers _ (c .before .before .before .before .enum-told .given .1) (c .before .before .put-registers .ensures))
+    (λ c. search needs)
+    (λ c. registers-of requestNumbers _ (c .before .before .before .before .enum-told2 .given .1) (c .before .before .put-registers2 .ensures))
+    (λ c. search needs)
+    (λ c. registers-of requestNumbers _ (c .before .before .before .before .enum-told3 .given .1) (c .before .before .put-registers3 .ensures))
+    (λ c. search needs)
+    (λ c. registers-of requestNumbers _ (c .before .before .before .before .enum-told4 .given .1) (c .before .before .put-registers4 .ensures))
+    (λ c. search needs)
+    (λ c. registers-of requestNumbers _ (c .before .before .before .before .enum-told5 .given .1) (c .before .before .put-registers5 .ensures))
+    (λ c. search needs)
+    (λ c. registers-of requestNumbers _ (c .before .before .before .before .before .before .request .given .1) (c .before .before .put-registers6 .ensures))
+    (λ c. search needs)
+    (λ c. registers-of requestNumbers _ (c .before .before .before .before .before .before .request2 .given .1) (c .before .before .put-registers7 .ensures))
+    (λ c. search needs)
+    (λ c. registers-of requestNumbers _ (c .before .before .before .before .before .before .before .request3 .given .1) (c .before .before .put-registers8 .ensures))
+    (λ c. search needs)
+    (λ c. registers-of requestNumbers _ (c .before .before .before .before .enum-told6 .given .1) (c .before .before .put-registers9 .ensures))
+    (λ c. search needs)
+    (λ c. registers-of requestNumbers _ (c .before .before .before .before .before .request4 .given .1) (c .before .before .put-registers10 .ensures))
+    (λ c. search needs)
+    (λ c. registers-of requestNumbers _ (c .before .before .before .before .enum-told7 .given .1) (c .before .before .put-registers11 .ensures)))

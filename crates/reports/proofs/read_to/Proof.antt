@@ -1,0 +1,31 @@
+-- `reports::read_to` meets its contract: with more bytes held, the session still fits its buffers. Assumes nothing.
+use Rattle.recv_buf.specs.RecvBuf.{cursor}
+use Rattle.session.proofs.Buf.{good-at}
+use Rattle.session.proofs.Misfit.{guarded-in}
+use Rattle.session.specs.Calls.{guarded}
+use Rattle.session.specs.State.{st}
+use Rattle.session.specs.Steps.{readOn}
+use Rattle.session.specs.declared.Pending.the-variants.{Idle}
+use Rattle.session.specs.declared.Session.{Session}
+use borrow.Author.Needs.{needs}
+use denote.Ref.{now}
+use mathlib.Core.Path.{refl, ap, _∙_}
+use Rattle.reports.proofs.read_to.Statement.{statement}
+use Rattle.reports.proofs.read_to.Tie as tie
+
+returns : tie.Need-returns
+returns c =
+    let a = c .before .before .before .before .before .before .before .before .before .before .before .args in
+    c .before .before .before .before .read-on .ensures
+    ∙ ap (λ (z : Session). guarded (st z (now (a .rx)) (now (a .msg))) (readOn (st z (now (a .rx)) (now (a .msg))) (a .phase) (a .lost))) (c .before .before .before .before .before .before .before .at .ensures)
+    ∙ guarded-in _ _ (good-at (st (a .s) (now (a .rx)) (now (a .msg))) (cursor (a .s .buf .head) (a .tail)) (now (a .rx)) (now (a .msg)) Idle (c .before .before .before .before .before .before .before .before .before .before .before .pre .0) (c .before .before .before .before .before .before .before .before .before .before .before .pre .1) (c .before .before .before .before .before .before .before .before .before .before .before .pre .2) refl refl)
+
+pub read-to-spec : {M : Type 1} → statement M
+read-to-spec =
+    tie.close
+    (tie.spec
+    (λ c κs. search needs)
+    (λ c κs. search needs)
+    (λ c. search needs)
+    (λ c. search needs)
+    returns)

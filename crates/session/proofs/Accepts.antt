@@ -1,0 +1,72 @@
+-- A host that accepts every write: that is what is logged of each call, whatever the engine.
+-- Assumes nothing.
+use Prim.Native.Nat.{ℕ, zero, suc, _+_}
+use mathlib.Core.Bool.{Bool, true, false, _&&_}
+use mathlib.Core.List.{List, [], _∷_}
+use mathlib.Core.Path.{_≡_, refl}
+use lib.Dec.{leb, ltb}
+use lib.ListN.{length, take, drop}
+use Rattle.protocol.specs.Bytes.{pick}
+use Rattle.protocol.specs.Calls.{Call}
+use Rattle.protocol.specs.Reader.{Report, accepted, broke}
+use Rattle.session.specs.Host.{Show, told, read, writeRx, writeLent, writeBytes, close, Step, Engine, Host, Ask, World, newCall, hasRead, hasWritten, hasClosed, counted, lentOf}
+use Rattle.session.specs.Host.{Run, over-with, unended, grantRead, grantWrite, grantClose, granted, run, enough, runCall, Entry, onRun, logOf}
+
+abbrev pub AllAccepted : List Entry → Type 0
+AllAccepted [] = Unit {0}
+AllAccepted (x ∷ xs) = (x .outcome ≡ accepted) × AllAccepted xs
+
+abbrev Kept : {X : Type 0} → Run X → Type 0
+Kept (over-with x rx msg a w) = w .outcome ≡ accepted
+Kept unended = Unit {0}
+
+module _ {X : Type 0} (E : Engine X) (h : Host) (accepts : (i : ℕ) → h .writes i ≡ accepted) where
+  module _ (lent : List ℕ) where
+    kept-unless : (b : Bool) (o : Run X) → Kept o → Kept (pick b o unended)
+    kept-unless true o x = x
+    kept-unless false o x = tt
+
+    module _ (k : World → Step X → Run X) (on : (w : World) (s : Step X) → w .outcome ≡ accepted → Kept (k w s)) (w : World) (s : Step X)
+        (e : w .outcome ≡ accepted) where
+      read-kept : (a : Ask) (l : List ℕ) → Kept (grantRead E h lent k w s a l)
+      read-kept a [] = on (hasRead 0 a w) _ e
+      read-kept a (b ∷ bs) = on (hasRead (counted (h .count (w .reads)) (a .len) (length (w .left))) a w) _ e
+
+      write-kept : (b : List ℕ) → Kept (grantWrite E h lent k w s b (h .writes (w .writes)))
+      write-kept b = rw (accepts (w .writes)) (on (hasWritten b w) _ e)
+
+      close-kept : (r : Report) → Kept (grantClose E h lent k w s r)
+      close-kept accepted = on (hasClosed w) _ e
+      close-kept (broke d) = on (hasClosed w) _ e
+
+      granted-kept : (o : Show) → Kept (granted E h lent k w s o)
+      granted-kept (told a) = e
+      granted-kept (read at len) =
+          let a : Ask = record { rest = w .left; holds = E .holds (s .x) (s .rx); at = at; len = len; before = w .pieces } in
+          kept-unless (ltb 0 len && leb (at + len) (length (s .rx))) (grantRead E h lent k w s a (w .left)) (read-kept a (w .left))
+      granted-kept (writeRx at len) =
+          let b : List ℕ = take len (drop at (s .rx)) in
+          kept-unless (leb (at + len) (length (s .rx))) (grantWrite E h lent k w s b (h .writes (w .writes))) (write-kept b)
+      granted-kept (writeLent at len) =
+          let b : List ℕ = take len (drop at lent) in
+          kept-unless (leb (at + len) (length lent)) (grantWrite E h lent k w s b (h .writes (w .writes))) (write-kept b)
+      granted-kept (writeBytes b) = write-kept b
+      granted-kept close = close-kept (h .close)
+
+    run-kept : (n : ℕ) (w : World) (s : Step X) → w .outcome ≡ accepted → Kept (run E h lent n w s)
+    unfolding run
+    run-kept zero w s e = tt
+    run-kept (suc n) w s e = granted-kept (λ w′ s′. run E h lent n w′ s′) (λ w′ s′ e′. run-kept n w′ s′ e′) w s e (s .show)
+
+  entry-kept : (held : List ℕ) (k : World → X → List ℕ → List ℕ → List Entry) → ((w : World) (x : X) (rx msg : List ℕ) → AllAccepted (k w x rx msg))
+      → (o : Run X) → Kept o → AllAccepted (onRun E held k o)
+  entry-kept held k rest (over-with x rx msg a w) e = (e, rest w x rx msg)
+  entry-kept held k rest unended e = tt
+
+  pub log-accepts : (qs : List Call) (w : World) (x : X) (rx msg : List ℕ) → AllAccepted (logOf E h qs w x rx msg)
+  unfolding logOf
+  log-accepts [] w x rx msg = tt
+  log-accepts (q ∷ qs) w x rx msg =
+      entry-kept (E .holds x rx) (λ w′ x′ rx′ msg′. logOf E h qs w′ x′ rx′ msg′) (λ w′ x′ rx′ msg′. log-accepts qs w′ x′ rx′ msg′)
+      (runCall E h q w x rx msg)
+      (run-kept (lentOf q) (enough q w) (newCall w) (E .start x rx msg q) refl)

@@ -1,0 +1,76 @@
+-- A call that sends data: message by message, each of at most 65,536 bytes, as the plain reader cuts it.
+-- Assumes nothing.
+use Prim.Native.Nat.{ℕ, zero, suc, _+_, _-_, _*_, _≤_, _<_, min}
+use mathlib.Core.Bool.{false}
+use mathlib.Core.List.{List, _++_, append-assoc, append-nil}
+use mathlib.Core.Path.{_≡_, refl, sym, ap, _∙_}
+use native.Mathlib.Decide.{decLe}
+use native.Mathlib.Omega.{arith}
+use borrow.Author.Tests.{eq-eqb, ne-eqb}
+use lib.ListN.{length, drop, length-take, length-drop}
+use Rattle.protocol.specs.Calls.{call, cutBy, chunks}
+use Rattle.protocol.specs.Ids.{published}
+use Rattle.protocol.specs.Messages.{chunk, pieces, dataMost}
+use Rattle.protocol.specs.Reader.{accepted, written}
+use Rattle.request.specs.declared.Request.the-variants as Q
+use Rattle.session.specs.declared.Answer.the-variants as A
+use Rattle.session.specs.Faithful.{piecesOf}
+use Rattle.session.specs.Host.{Host, World}
+use Rattle.session.specs.Shown.{paper}
+use Rattle.session.specs.State.{St, beside}
+use Rattle.session.specs.Steps.{carried, sent, resumed}
+use Rattle.session.proofs.Follows.{Breaks, told-ok}
+use Rattle.session.proofs.Sends.{message-ok}
+use Rattle.session.proofs.Site.{Site, free, all, Goes, later, Mid, LetIn}
+use Rattle.session.proofs.Writes.{take-taken, part-is, next, next-is, cut-none, cut-some}
+
+-- a call that sends x
+module _ (h : Host) (w : World) (s : St) (x : List ℕ) where
+  abbrev pub sending : Site
+  sending = record { host = h; world = w; state = s; call = call (chunk x) }
+
+  -- the messages of what is left from `from` on, m of them at most, and their pieces
+  abbrev left : ℕ → ℕ → List (List ℕ)
+  left m from = cutBy m (drop from x)
+
+  abbrev pieces-left : ℕ → ℕ → List (List ℕ)
+  pieces-left m from = piecesOf published (free sending) (chunks (left m from))
+
+  -- what is claimed of them
+  abbrev pub Cuts : ℕ → ℕ → Type 0
+  Cuts m from =
+      (f i : ℕ) (xs : List (List ℕ)) (t : St) → Mid sending t → all sending ≡ xs ++ pieces-left m from → later sending + 5 * length (left m from) ≤ f
+      → Goes sending f i xs accepted (beside (sent (t .ses) (t .rx) Q.Data from (carried Q.Data from x)) (t .msg))
+
+  module _ (lets : LetIn sending) (live : s .ses .ended ≡ false) (breaks : Breaks sending (later sending) Q.Data) where
+    data-none : (m from : ℕ) → length (drop from x) ≡ 0 → Cuts m from
+    unfolding sent written paper
+    data-none m from z f i xs t y e l =
+        let k : length (carried Q.Data from x) ≡ 0 = rw (part-is x from) (omega (arith, length-take dataMost (drop from x))) in
+        rw (eq-eqb (length (carried Q.Data from x)) 0 k)
+        (told-ok sending lets refl f i xs accepted t A.Done (omega arith) y
+        (sym (e ∙ ap (λ (b : List (List ℕ)). xs ++ piecesOf published (free sending) (chunks b)) (cut-none m (drop from x) z) ∙ append-nil xs)) refl)
+
+    data-some : (m from : ℕ) → 0 < length (drop from x) → Cuts m (next x from) → Cuts (suc m) from
+    unfolding sent resumed
+    data-some m from p go f i xs t y e l =
+        let part : List ℕ = carried Q.Data from x in
+        let ps : List (List ℕ) = pieces published (free sending) (chunk part) in
+        let rest : List (List ℕ) = pieces-left m (next x from) in
+        let n : length part ≡ min dataMost (length x - from) = rw (part-is x from, length-take, length-drop) in
+        let k : length (left (suc m) from) ≡ suc (length (left m (next x from))) = ap length (cut-some m x from p) in
+        let upto : all sending ≡ xs ++ ps ++ rest =
+        e ∙ ap (λ (b : List (List ℕ)). xs ++ piecesOf published (free sending) (chunks b)) (cut-some m x from p) ∙ sym (append-assoc xs ps rest) in
+        rw (ne-eqb (length part) 0 (omega (arith, length-drop from x)))
+        (message-ok sending live Q.Data (later sending + 5 * length (left m (next x from)))
+        (λ f′ i′ xs′ r′ t′ e′ l′. breaks f′ i′ xs′ r′ t′ e′ (omega arith))
+        from part (omega (arith, length-drop from x)) (rw (part-is x from) (take-taken dataMost (drop from x))) refl (xs ++ ps) rest upto
+        (λ f′ i′ t′ l′ y′. go f′ i′ (xs ++ ps) t′ y′ upto l′) f i xs t (omega arith) y refl)
+
+    pub data-ok : (m from : ℕ) → length (drop from x) ≤ m → Cuts m from
+    data-ok zero from l = data-none zero from (omega arith)
+    data-ok (suc m) from l = step (data-ok m (next x from)) (decLe 1 (length (drop from x)))
+      where
+        step : (length (drop (next x from) x) ≤ m → Cuts m (next x from)) → Dec (1 ≤ length (drop from x)) → Cuts (suc m) from
+        step go (yes p) = data-some m from p (go (rw (next-is x from) (omega (arith, length-drop dataMost (drop from x)))))
+        step go (no f) = data-none (suc m) from (omega arith)

@@ -1,0 +1,149 @@
+-- Demand 3: of any system whose two logs are faithful, by comparing the two plain readers; and of the session's own steps, whose log is
+-- faithful from the opening.
+-- Assumes nothing.
+use Prim.Native.Nat.{ℕ, _+_, _≤_, _<_}
+use mathlib.Core.List.{List, [], _++_}
+use mathlib.Core.Path.{_≡_, refl, sym, ap, _∙_, subst}
+use native.Mathlib.Omega.{arith}
+use borrow.Author.Tests.{le-ltb, le-leb}
+use lib.ListN.{length, getD}
+use Rattle.protocol.specs.Answers.{Answer, End, done}
+use Rattle.protocol.specs.Calls.{Call}
+use Rattle.protocol.specs.Features.{featuresOf}
+use Rattle.protocol.specs.Reader.{Config, Report, plainAnswers}
+use Rattle.protocol.specs.Records.{argAt}
+use Rattle.reader.specs.Wider.{widen, Unstopped, Like, unreadAt}
+use Rattle.reader.proofs.Wider as Wider
+use Rattle.features.specs.Meaning.{listed}
+use Rattle.recv_buf.specs.RecvBuf.{heldBytes}
+use Rattle.session.specs.Calls.{fresh, openRefusal}
+use Rattle.session.specs.Core.{core, featuresFrom, coreSystem}
+use Rattle.session.specs.Demand3.{System, Side, reader, logFrom, answersOf, failLength, Demand3, Claim}
+use Rattle.session.specs.Faithful.{Faithful}
+use Rattle.session.specs.Host.{Host, Entry, atStart, logOf}
+use Rattle.session.specs.State.{St, st, Good}
+use Rattle.session.proofs.Accepts.{AllAccepted, log-accepts}
+use Rattle.session.proofs.Calls.{faithful}
+use Rattle.session.proofs.Logs.{log-ends, log-reads, log-closes, log-answers, log-written, log-unread}
+use Rattle.session.proofs.Run.{configOf}
+use Rattle.session.proofs.Turns.{held}
+
+-- ---- two logs: xs and ys their answers, l the length of the FAIL that A's k-th call would meet
+
+module _ (g : Config) (d : ℕ) (e e′ : End) (qs : List Call) (u x : List ℕ) (least : 8 ≤ g .capacity) (wide : g .capacity ≤ d) (xs ys : List Answer)
+    (is : xs ≡ plainAnswers g e qs u) (is′ : ys ≡ plainAnswers (widen d g) e′ qs (u ++ x)) (k l : ℕ) (inside : k < length qs)
+    (meets : l ≡ argAt (unreadAt g e qs u k))
+    (runs : Unstopped xs k) where
+  like : Like (g .capacity) l (getD xs k done) (getD ys k done)
+  like = rw (is, is′, meets) (Wider.before d e e′ x g qs u least wide k inside (subst (λ (y : List Answer). Unstopped y k) is runs))
+
+  alike : l ≤ g .capacity → getD xs k done ≡ getD ys k done
+  alike h = rw (is, is′) (Wider.uncut d e e′ x g qs u least wide k inside (subst (λ (y : List Answer). Unstopped y k) is runs) (omega arith))
+
+-- ---- any system
+
+module _ {X : Type 0} (S : System X) (banner : List ℕ) (close : Report) (qs : List Call) (c d : ℕ) (least : 8 ≤ c) (wide : c ≤ d) (a : Side S c close)
+    (b : Side S d close) where
+  abbrev A : List Entry
+  A = logFrom S banner qs a
+
+  abbrev B : List Entry
+  B = logFrom S banner qs b
+
+  abbrev g : Config
+  g = reader banner c close
+
+  abbrev g′ : Config
+  g′ = reader banner d close
+
+  pub demand : S .opened (a .x) banner (a .rx) (a .msg) .number ≡ 0 → S .opened (b .x) banner (b .rx) (b .msg) .number ≡ 0
+      → Faithful g (a .host .end) qs (a .incoming) A → Faithful g′ (b .host .end) qs (b .incoming) B
+      → (more : List ℕ) → b .incoming ≡ a .incoming ++ more → Demand3 S banner close qs c d a b
+  demand opens-a opens-b f f′ more e =
+      record {
+        opens-a = opens-a;
+        opens-b = opens-b;
+        ends-a = log-ends (a .host .end) g qs (a .incoming) A f;
+        ends-b = log-ends (b .host .end) g′ qs (b .incoming) B f′;
+        reads-a = log-reads (a .host .end) g qs (a .incoming) A o f;
+        reads-b = log-reads (b .host .end) g′ qs (b .incoming) B o′ f′;
+        answers-a = answers;
+        answers-b = answers′;
+        written-a = log-written (a .host .end) g qs (a .incoming) A o f;
+        written-b = log-written (b .host .end) g′ qs (b .incoming) B o′ f′;
+        closes-a = log-closes (a .host .end) g qs (a .incoming) A f;
+        closes-b = log-closes (b .host .end) g′ qs (b .incoming) B f′;
+        same-writes = log-written (b .host .end) g′ qs (b .incoming) B o′ f′ ∙ Wider.writes-same g d qs ∙ sym
+            (log-written (a .host .end) g qs (a .incoming) A o f);
+        before = λ k l runs. like g d (a .host .end) (b .host .end) qs (a .incoming) more least wide (answersOf A) (answersOf B) answers longer k _ l
+            (meets k l) runs;
+        uncut = λ k l runs. alike g d (a .host .end) (b .host .end) qs (a .incoming) more least wide (answersOf A) (answersOf B) answers longer k _ l
+            (meets k l) runs;
+        same = λ p q r. answers ∙ ap (λ (z : End). plainAnswers g z qs (a .incoming)) r ∙ ap (plainAnswers g (b .host .end) qs) q
+            ∙ ap (λ (n : ℕ). plainAnswers (reader banner n close) (b .host .end) qs (b .incoming)) p ∙ sym answers′;
+      }
+    where
+      o : AllAccepted A
+      o = log-accepts (S .engine) (a .host) (a .accepts) qs (atStart (a .incoming)) _ (a .rx) (a .msg)
+
+      o′ : AllAccepted B
+      o′ = log-accepts (S .engine) (b .host) (b .accepts) qs (atStart (b .incoming)) _ (b .rx) (b .msg)
+
+      answers : answersOf A ≡ plainAnswers g (a .host .end) qs (a .incoming)
+      answers = log-answers (a .host .end) g qs (a .incoming) A o f
+
+      answers′ : answersOf B ≡ plainAnswers g′ (b .host .end) qs (b .incoming)
+      answers′ = log-answers (b .host .end) g′ qs (b .incoming) B o′ f′
+
+      longer : answersOf B ≡ plainAnswers g′ (b .host .end) qs (a .incoming ++ more)
+      longer = answers′ ∙ ap (plainAnswers g′ (b .host .end) qs) e
+
+      meets : (k : ℕ) → k < length qs → failLength (a .incoming) A k ≡ argAt (unreadAt g (a .host .end) qs (a .incoming) k)
+      meets k l = ap argAt (log-unread (a .host .end) g qs (a .incoming) A o f k (omega arith))
+
+-- ---- the session's own steps
+
+-- the features of a banner, kept and listed again
+features-listed : (banner : List ℕ) → listed (featuresFrom (featuresOf banner)) ≡ featuresOf banner
+unfolding featuresOf
+features-listed banner = refl
+
+-- buffers that opening takes
+module _ (banner rx msg : List ℕ) (least : 8 ≤ length rx) (room : length rx ≤ length msg) where
+  -- the session that it leaves
+  abbrev pub begins : St
+  begins = st (fresh (length rx) (length msg) (featuresFrom (featuresOf banner))) rx msg
+
+  pub opens : openRefusal (length rx) (length msg) ≡ 0
+  unfolding openRefusal
+  opens = rw (le-ltb (length rx) 8 least, le-ltb (length msg) (length rx) room)
+
+  pub begins-good : Good begins
+  begins-good = record { order = omega arith; inside = omega arith; rx = refl; least = least; aside = room; msg = refl }
+
+  -- nothing is held yet
+  pub begins-empty : held begins ≡ []
+  unfolding heldBytes
+  begins-empty = rw (le-leb 0 (length rx) (omega arith))
+
+  -- against any host, also one whose writes and close come to faults
+  pub begins-faithful : (h : Host) (qs : List Call) (incoming : List ℕ)
+      → Faithful (reader banner (length rx) (h .close)) (h .end) qs incoming (logOf core h qs (atStart incoming) (begins .ses) rx msg)
+  begins-faithful h qs incoming =
+      let g : Config = reader banner (length rx) (h .close) in
+      subst (λ (y : List ℕ). Faithful g (h .end) qs (y ++ incoming) (logOf core h qs (atStart incoming) (begins .ses) rx msg)) begins-empty
+      (faithful h g qs (atStart incoming) begins begins-good refl (rw (features-listed banner)))
+
+module _ (banner : List ℕ) (close : Report) (qs : List Call) (c : ℕ) (least : 8 ≤ c) (a : Side coreSystem c close) where
+  takes : openRefusal (length (a .rx)) (length (a .msg)) ≡ 0
+  takes = opens banner (a .rx) (a .msg) (omega (arith, a)) (omega (arith, a))
+
+  log-faithful : Faithful (reader banner c close) (a .host .end) qs (a .incoming) (logFrom coreSystem banner qs a)
+  log-faithful =
+      rw (takes, sym (a .capacity), sym (a .closes)) (begins-faithful banner (a .rx) (a .msg) (omega (arith, a)) (omega (arith, a)) (a .host) qs (a .incoming))
+
+pub core-claim : Claim coreSystem
+core-claim banner close qs c d least wide coded wides a b more e =
+    let least-b : 8 ≤ d = omega arith in
+    demand coreSystem banner close qs c d least wide a b (takes banner close qs c least a) (takes banner close qs d least-b b) (log-faithful banner close qs c least a)
+    (log-faithful banner close qs d least-b b) more e

@@ -1,0 +1,16 @@
+-- The session's steps against the plain reader: what the buffers hold, the needs between two reads, a call against a host, every list
+-- of calls, demand 3.
+pub mod Misfit
+pub mod Buf
+pub mod Turns
+pub mod Writes
+pub mod Run
+pub mod Site
+pub mod Follows
+pub mod Sends
+pub mod Data
+pub mod Refusals
+pub mod Calls
+pub mod Accepts
+pub mod Logs
+pub mod Demand3

@@ -1,0 +1,260 @@
+-- A call against the host. First what it is to come to, and that a report which is awaited is let in; then the call from where it reads:
+-- bytes come in reads of any counts, each asked at a need of the plain reader, until there is an answer or the end error.
+-- Assumes nothing.
+use Prim.Native.Nat.{ℕ, zero, suc, _+_, _-_, _≤_, _<_}
+use mathlib.Core.Bool.{Bool, false}
+use mathlib.Core.List.{List, [], _∷_, _++_, append-assoc, append-nil}
+use mathlib.Core.Path.{_≡_, refl, sym, ap, _∙_, subst}
+use native.Mathlib.Omega.{arith}
+use borrow.Author.Tests.{lt-ltb, le-leb, eq-eqb}
+use lib.ListN.{length, take, drop, length-append, length-drop, take-append-drop}
+use lib.Seq.{length-take-le}
+use Rattle.protocol.specs.Answers as P
+use Rattle.protocol.specs.Answers.{End, closed, error}
+use Rattle.protocol.specs.Bytes.{pick}
+use Rattle.protocol.specs.Calls.{Call}
+use Rattle.protocol.specs.Ids.{published}
+use Rattle.protocol.specs.Reader.{Result, short, plain, Config, Report, program, endOf, reply, plainCall, isQuit, after}
+use Rattle.protocol.proofs.Bytes.{over-length}
+use Rattle.reader.proofs.Needs.{plain-short}
+use Rattle.features.specs.Meaning.{listed}
+use Rattle.recv_buf.specs.RecvBuf.{heldBytes}
+use Rattle.recv_buf.proofs.Laws.{held-length, window-keeps}
+use Rattle.session.specs.declared.Answer.{Answer}
+use Rattle.session.specs.declared.Answer.the-variants as A
+use Rattle.session.specs.declared.Fault.{Fault}
+use Rattle.session.specs.declared.Pending.{Pending}
+use Rattle.session.specs.declared.Pending.the-variants.{Idle}
+use Rattle.session.specs.declared.Phase.{Phase}
+use Rattle.session.specs.declared.Reply.the-variants as R
+use Rattle.session.specs.declared.Session.{Session}
+use Rattle.session.specs.Calls.{isIdle}
+use Rattle.session.specs.Core.{faultOf, stepOf, core}
+use Rattle.session.specs.Faithful.{AtNeed, AllAtNeeds, callPieces, Accepted, closesFor}
+use Rattle.session.specs.Host.{Step, Host, Ask, World, hasRead, counted, filling, windowed, lentOf, Run, over-with, unended, grantRead, granted, run}
+use Rattle.session.specs.Phases.{wants}
+use Rattle.session.specs.Reports.{reportRefusal, refusalAt, readIn, readAt, reportRead, wroteAt, reportWrote, faultAnswer, faultAt, reportFault}
+use Rattle.session.specs.Shown.{paper}
+use Rattle.session.specs.State as S
+use Rattle.session.specs.State.{St, st, Out, Good}
+use Rattle.session.proofs.Buf.{sound-of, good-at, good-pending}
+use Rattle.session.proofs.Misfit.{fits-misfit}
+use Rattle.session.proofs.Turns.{held, cont, Frame, frameOf, Waits, KeptOut, Kept, kept-eq, stay-ok}
+
+-- ---- what a call is to come to
+
+-- a session, as the plain reader is set up; z is reported of the close
+abbrev pub configIn : Frame → Report → Config
+configIn φ z =
+    record { setting = record { dialect = published; features = listed (φ .features); ended = φ .ended }; capacity = φ .capacity; close = z }
+
+abbrev pub configOf : Session → Report → Config
+configOf s z = configIn (frameOf s) z
+
+-- What the world w has of a call is the plain reader's: each read asked at a need, the pieces accepted, the closes. The unread bytes
+-- were v, n of them held.
+pub record Heeds (g : Config) (q : Call) (v : List ℕ) (n : ℕ) (w : World) : Type 0 where
+  pub asks : AllAtNeeds g (w .outcome) q v (w .pieces) (w .asks)
+  pub pieces : Accepted (w .outcome) (callPieces g q n) (w .pieces)
+  pub closes : w .closes ≡ closesFor (isQuit q) (g .setting .ended) (w .pieces)
+
+-- A call that is over: so is what it answers and what is left unread, and the next call finds a session as the plain reader is then.
+pub record Over (g : Config) (e : End) (q : Call) (v : List ℕ) (n : ℕ) (t : St) (a : P.Answer) (w : World) : Type 0 where
+  pub good : Good t
+  pub still : t .ses .pending ≡ Idle
+  pub config : configOf (t .ses) (g .close) ≡ after g q
+  pub same : plainCall g e (w .outcome) q v ≡ record { answer = a; unread = held t ++ w .left }
+  pub heeds : Heeds g q v n w
+
+abbrev pub Comes : Config → End → Call → List ℕ → ℕ → Run Session → Type 0
+Comes g e q v n (over-with x rx msg a w) = Over g e q v n (st x rx msg) a w
+Comes g e q v n unended = ⊥
+
+-- ---- reports
+
+module _ (s : St) (n : ℕ) (g : Good s) (runs : s .ses .ended ≡ false) (size : s .ses .lent ≡ n) (p : Pending) (pend : s .ses .pending ≡ p)
+    (busy : isIdle p ≡ false) where
+  -- a report that is awaited is let in
+  awaited : refusalAt s n ≡ 0
+  unfolding reportRefusal
+  awaited = rw (fits-misfit (s .ses) (length (s .rx)) (length (s .msg)) g, pend, busy, eq-eqb n (s .ses .lent) (sym size), runs)
+
+  pub read-step : (k : ℕ) → reportRead s n k ≡ readAt p s k
+  unfolding reportRead
+  read-step k = rw (awaited, pend)
+
+  pub fault-step : (e : Fault) → reportFault s n e ≡ faultAt p s e
+  unfolding reportFault
+  fault-step e = rw (awaited, pend)
+
+  pub wrote-step : (lent : List ℕ) → length lent ≡ n → reportWrote s lent ≡ wroteAt p s lent
+  unfolding reportWrote
+  wrote-step lent e = rw (e, awaited, pend)
+
+pub fault-told : (e : End) (rx msg : List ℕ) → paper rx msg (faultAnswer (faultOf e)) ≡ P.broken e
+unfolding paper
+fault-told closed rx msg = refl
+fault-told (error c) rx msg = refl
+
+-- ---- an answer
+
+abbrev telling : St → Answer → Out
+telling t a = record { st = t; reply = R.Told a }
+
+pub run-told : (h : Host) (lent : List ℕ) (f : ℕ) (w : World) (t : St) (a : Answer) → 0 < f
+    → run core h lent f w (stepOf (telling t a)) ≡ over-with (t .ses) (t .rx) (t .msg) (paper (t .rx) (t .msg) a) w
+unfolding run
+run-told h lent zero w t a l = absurd (omega arith)
+run-told h lent (suc f) w t a l = refl
+
+-- ---- reading
+
+pub length-filling : (f : ℕ → ℕ) (n : ℕ) → length (filling f n) ≡ n
+length-filling f zero = refl
+length-filling f (suc n) = ap suc (length-filling f n)
+
+module _ (h : Host) (g : Config) (q : Call) (v : List ℕ) (n : ℕ) (φ : Frame) (lost : Bool) (r : Report) (runs : φ .ended ≡ false)
+    (size : φ .lent ≡ length (lentOf q)) (config : configIn φ (g .close) ≡ after g q)
+    (end-told : (rx msg : List ℕ) → paper rx msg (pick lost A.Closed (faultAnswer (faultOf (h .end)))) ≡ P.broken (endOf (h .end) r q)) where
+  -- the plain reader, given the bytes x
+  abbrev G : List ℕ → Result
+  G x = plain (g .capacity) (program g r q) x
+
+  abbrev Ok : Run Session → Type 0
+  Ok o = Comes g (h .end) q v n o
+
+  -- one step of the run, in the world w where the bytes u of v have come
+  module _ (w : World) (u : List ℕ) (t : St) (is : w .outcome ≡ r) (come : v ≡ u ++ w .left) (heeds : Heeds g q v n w)
+      (k : World → Step Session → Run Session)
+      (ends : (w′ : World) (t′ : St) (a : Answer) → k w′ (stepOf (telling t′ a)) ≡ over-with (t′ .ses) (t′ .rx) (t′ .msg)
+      (paper (t′ .rx) (t′ .msg) a) w′)
+      (on : (w′ : World) (u′ : List ℕ) (o : Out) → length (w′ .left) < length (w .left) → w′ .outcome ≡ r → v ≡ u′ ++ w′ .left → Heeds g q v n w′
+      → Kept φ lost (λ x. G (u′ ++ x)) o → Ok (k w′ (stepOf o))) where
+    module _ (i len : ℕ) (p : Phase) (x : Waits φ (λ y. G (u ++ y)) lost t i len p) where
+      abbrev ask : Ask
+      ask = record { rest = w .left; holds = held t; at = i; len = len; before = w .pieces }
+
+      abbrev step : Step Session
+      step = stepOf (record { st = t; reply = R.Read i len })
+
+      capacity : t .ses .capacity ≡ g .capacity
+      capacity = ap (λ (ψ : Frame). ψ .capacity) (x .frame) ∙ ap (λ (c : Config). c .capacity) config
+
+      falls : (y : List ℕ) → length y ≡ 0 → G (u ++ y) ≡ short (wants (t .ses .capacity) p) (held t ++ y)
+      falls y e =
+          let l = held-length (t .rx) (t .ses .buf) (sound-of t (x .good)) in
+          x .same y ∙ plain-short (t .ses .capacity) (wants (t .ses .capacity) p) (cont (t .ses .capacity) (t .msg) p) (held t ++ y) (x .fits)
+          (omega (arith, x, length-append (held t) y))
+
+      at-need : AtNeed g (w .outcome) q v (w .pieces) ask
+      at-need =
+          record {
+            come = u;
+            n = wants (t .ses .capacity) p;
+            split = come;
+            falls = rw is (ap G (sym (append-nil u)) ∙ falls [] refl ∙ ap (short (wants (t .ses .capacity) p)) (append-nil (held t)));
+            fits = omega (arith, x, capacity);
+            fewer = omega (arith, x, held-length (t .rx) (t .ses .buf) (sound-of t (x .good)));
+            window = omega (arith, x);
+            inside = omega (arith, x, capacity);
+            behind = refl;
+          }
+
+      read-heeds : (j : ℕ) → Heeds g q v n (hasRead j ask w)
+      read-heeds j = record { asks = (at-need, heeds .asks); pieces = heeds .pieces; closes = heeds .closes }
+
+      -- the window, overwritten: y, and then any bytes
+      module _ (f : ℕ → ℕ) (y : List ℕ) (l : length y ≤ len) where
+        abbrev laid : List ℕ
+        laid = y ++ filling f (len - length y)
+
+        laid-length : length laid ≡ len
+        laid-length = omega (arith, length-append y (filling f (len - length y)), length-filling f (len - length y))
+
+        window-good : Good (st (t .ses) (windowed f (t .rx) i len y) (t .msg))
+        window-good =
+            good-at t (t .ses .buf) (windowed f (t .rx) i len y) (t .msg) (t .ses .pending) (x .good) (x .good .order) (x .good .inside)
+            (over-length (t .rx) i laid (omega (arith, x, laid-length))) refl
+
+        window-held : heldBytes (windowed f (t .rx) i len y) (t .ses .buf) ≡ held t
+        window-held = rw (x .from) (window-keeps (t .rx) (t .ses .buf) (sound-of t (x .good)) laid (omega (arith, x, laid-length)))
+
+      ended : t .ses .ended ≡ false
+      ended = ap (λ (ψ : Frame). ψ .ended) (x .frame) ∙ runs
+
+      lends : t .ses .lent ≡ length (lentOf q)
+      lends = ap (λ (ψ : Frame). ψ .lent) (x .frame) ∙ size
+
+      -- all has come: the end error
+      stop-ok : length (w .left) ≡ 0 → (f : ℕ → ℕ)
+          → Ok (k (hasRead 0 ask w) (stepOf (reportFault (st (t .ses) (windowed f (t .rx) i len []) (t .msg)) (length (lentOf q)) (faultOf (h .end)))))
+      unfolding faultAt
+      stop-ok none f =
+          let rx : List ℕ = windowed f (t .rx) i len [] in
+          let t₁ : St = st (t .ses) rx (t .msg) in
+          let a : Answer = pick lost A.Closed (faultAnswer (faultOf (h .end))) in
+          let e : End = endOf (h .end) r q in
+          subst (λ (o : Out). Ok (k (hasRead 0 ask w) (stepOf o)))
+          (sym (fault-step t₁ (length (lentOf q)) (window-good f [] (omega arith)) ended lends _ (x .pend) refl (faultOf (h .end))))
+          (subst Ok (sym (ends (hasRead 0 ask w) (st (S.at (t .ses) (t .ses .buf) Idle) rx (t .msg)) a))
+          (record {
+            good = good-pending t₁ (window-good f [] (omega arith)) Idle;
+            still = refl;
+            config = ap (λ (ψ : Frame). configIn ψ (g .close)) (x .frame) ∙ config;
+            same = ap (λ (r′ : Report). plainCall g (h .end) r′ q v) is ∙ ap (λ (y : List ℕ). reply e (G y)) come ∙ ap (reply e)
+                (falls (w .left) none)
+                ∙ ap (λ (b : P.Answer). record { answer = b; unread = held t ++ w .left }) (sym (end-told rx (t .msg)))
+                ∙ ap (λ (y : List ℕ). record { answer = paper rx (t .msg) a; unread = y ++ w .left }) (sym (window-held f [] (omega arith)));
+            heeds = read-heeds 0;
+          }))
+
+      -- some of it came
+      came-ok : (j : ℕ) → 1 ≤ j → j ≤ len → j ≤ length (w .left) → (f : ℕ → ℕ)
+          → Ok (k (hasRead j ask w) (stepOf (reportRead (st (t .ses) (windowed f (t .rx) i len (take j (w .left))) (t .msg)) (length (lentOf q)) j)))
+      unfolding readAt
+      came-ok j a b c f =
+          let y : List ℕ = take j (w .left) in
+          let e : length y ≡ j = length-take-le j (w .left) c in
+          let t₁ : St = st (t .ses) (windowed f (t .rx) i len y) (t .msg) in
+          let until : ℕ → Out = λ m. readIn t₁ p (t .ses .buf .head + wants (t .ses .capacity) p) lost m in
+          on (hasRead j ask w) (u ++ y) (reportRead t₁ (length (lentOf q)) j) (omega (arith, length-drop j (w .left))) is
+          (come ∙ ap (λ (z : List ℕ). u ++ z) (sym (take-append-drop j (w .left))) ∙ sym (append-assoc u y (drop j (w .left)))) (read-heeds j)
+          (subst (λ (o : Out). Kept φ lost (λ z. G (u ++ y ++ z)) o)
+          (sym (read-step t₁ (length (lentOf q)) (window-good f y (omega arith)) ended lends _ (x .pend) refl j))
+          (kept-eq φ lost (λ z. G (u ++ y ++ z)) (λ z. G (u ++ (y ++ z))) (until j) (λ z. ap G (append-assoc u y z))
+          (subst (λ (m : ℕ). Kept φ lost (λ z. G (u ++ (y ++ z))) (until m)) e
+          (stay-ok x y (filling f (len - length y)) (omega arith) (omega (arith, x, length-filling f (len - length y)))))))
+
+      read-ok : (ls : List ℕ) → w .left ≡ ls → Ok (grantRead core h (lentOf q) k w step ask ls)
+      read-ok [] e = stop-ok (ap length e) (h .junk (w .reads))
+      read-ok (b ∷ bs) e =
+          let some : 0 < length (w .left) = rw e (omega arith) in
+          came-ok (counted (h .count (w .reads)) len (length (w .left))) (omega arith) (omega (arith, x)) (omega arith) (h .junk (w .reads))
+
+    reply-ok : (o : R.the-data) → KeptOut φ lost (λ x. G (u ++ x)) t o
+        → Ok (granted core h (lentOf q) k w (stepOf (record { st = t; reply = o })) (stepOf (record { st = t; reply = o }) .show))
+    reply-ok (R.Told a) x =
+        record {
+          good = x .good;
+          still = x .still;
+          config = ap (λ (ψ : Frame). configIn ψ (g .close)) (x .frame) ∙ config;
+          same = ap (λ (r′ : Report). plainCall g (h .end) r′ q v) is ∙ ap (λ (y : List ℕ). reply (endOf (h .end) r q) (G y)) come ∙ ap
+              (reply (endOf (h .end) r q)) (x .same (w .left));
+          heeds = heeds;
+        }
+    reply-ok (R.Read i len) x =
+        let wide : 0 < len = omega (arith, x .1) in
+        let inside : i + len ≤ length (t .rx) = omega (arith, x .1) in
+        rw (lt-ltb 0 len wide, le-leb (i + len) (length (t .rx)) inside) (read-ok i len (x .0) (x .1) (w .left) refl)
+    reply-ok (R.WriteRx i len) x = absurd x
+    reply-ok (R.WriteLent i len) x = absurd x
+    reply-ok (R.WriteBytes b) x = absurd x
+    reply-ok R.Close x = absurd x
+
+  pub reading-ok : (f : ℕ) (w : World) (u : List ℕ) (o : Out) → length (w .left) + 1 < f → w .outcome ≡ r → v ≡ u ++ w .left → Heeds g q v n w
+      → Kept φ lost (λ x. G (u ++ x)) o → Ok (run core h (lentOf q) f w (stepOf o))
+  unfolding run
+  reading-ok zero w u o l is come heeds x = absurd (omega arith)
+  reading-ok (suc f) w u o l is come heeds x =
+      reply-ok w u (o .st) is come heeds (λ w′ s′. run core h (lentOf q) f w′ s′) (λ w′ t a. run-told h (lentOf q) f w′ t a (omega arith))
+      (λ w′ u′ o′ m is′ come′ heeds′ y. reading-ok f w′ u′ o′ (omega arith) is′ come′ heeds′ y) (o .reply) x

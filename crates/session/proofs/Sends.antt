@@ -1,0 +1,184 @@
+-- A call that writes, against the host: each of its pieces goes out as the plain reader has it, until all are accepted and the call
+-- goes on, or one comes to a fault.
+-- Assumes nothing.
+use Prim.Native.Nat.{ℕ, zero, suc, _+_, _≤_, _<_}
+use mathlib.Core.Bool.{false}
+use mathlib.Core.List.{List, [], _∷_, _++_, map, append-assoc, append-nil}
+use mathlib.Core.Path.{_≡_, refl, sym, ap, _∙_, subst}
+use native.Mathlib.Decide.{decLe}
+use native.Mathlib.Omega.{arith}
+use borrow.Author.Tests.{le-leb}
+use lib.ListN.{length, take, drop}
+use lib.Seq.{append-snoc, take-length}
+use Rattle.protocol.specs.Bytes.{over}
+use Rattle.protocol.specs.Calls.{messages}
+use Rattle.protocol.specs.Ids.{published}
+use Rattle.protocol.specs.Messages.{messageOf, bytesOfRequest, apart, pieces}
+use Rattle.protocol.specs.Reader.{Report, accepted, broke}
+use Rattle.piece.specs.Pieces.{headerOf, pieceList}
+use Rattle.piece.specs.declared.Piece.{Piece}
+use Rattle.piece.specs.declared.Piece.the-variants as P
+use Rattle.recv_buf.proofs.Laws.{held-length}
+use Rattle.request.specs.Meaning.{meant}
+use Rattle.request.specs.declared.Request.{Request}
+use Rattle.session.specs.declared.Pending.the-variants.{Writing}
+use Rattle.session.specs.declared.Reply.{Reply}
+use Rattle.session.specs.declared.Reply.the-variants as R
+use Rattle.session.specs.declared.Session.{Session}
+use Rattle.session.specs.Core.{faultOf, showOf, stepOf, core}
+use Rattle.session.specs.Faithful.{piecesOf}
+use Rattle.session.specs.Host.{Step, World, Run, grantWrite, granted, run}
+use Rattle.session.specs.Reports.{wroteAt, faultAt}
+use Rattle.session.specs.State.{St, st, Out, out, beside, at, Good}
+use Rattle.session.specs.Steps.{tidied, carried, pieceReply, sendPiece, messageOut, resumed, wroteOn}
+use Rattle.session.proofs.Buf.{sound-of}
+use Rattle.session.proofs.Follows.{Breaks, Follows}
+use Rattle.session.proofs.Run.{fault-step, wrote-step}
+use Rattle.session.proofs.Site.{Site, lent, free, all, Ok, wrote, Goes, later, started, Mid, mid-started, mid-pending, mid-tidied, mid-runs, mid-lends, LetIn, all-is}
+use Rattle.session.proofs.Turns.{held, Frame}
+use Rattle.session.proofs.Writes.{bytesIn, apart-pieces, Sent, pieces-sent, piece-at, drop-rest, wrote-last, wrote-more, placed-good, placed-held, placed-there, placed-inside, message-whole, message-apart, pieces-whole, pieces-apart, pieces-bare}
+
+module _ (c : Site) where
+  module _ (live : c .state .ses .ended ≡ false) (rq : Request) (n : ℕ) (breaks : Breaks c n rq) where
+    -- the host is handed a piece b
+    write-ok : (f i : ℕ) (xs rest : List (List ℕ)) (b : List ℕ) (t : St) (o : Reply) (from k : ℕ) → n ≤ f → Mid c t
+        → t .ses .pending ≡ Writing rq from k → all c ≡ xs ++ b ∷ rest
+        → Goes c f (i + 1) (xs ++ b ∷ []) accepted (wroteOn t rq from k (lent c))
+        → (r : Report)
+        → Ok c (grantWrite core (c .host) (lent c) (λ w′ s′. run core (c .host) (lent c) f w′ s′) (wrote c i xs accepted)
+        (stepOf (record { st = t; reply = o })) b r)
+    unfolding wroteAt faultAt
+    write-ok f i xs rest b t o from k l x pend e on accepted =
+        subst (λ (y : Out). Goes c f (i + 1) (xs ++ b ∷ []) accepted y)
+        (sym (wrote-step t (length (lent c)) (x .good) (mid-runs c t x live) (mid-lends c t x) (Writing rq from k) pend refl (lent c) refl)) on
+    write-ok f i xs rest b t o from k l x pend e on (broke d) =
+        subst (λ (y : Out). Goes c f (i + 1) xs (broke d) y)
+        (sym (fault-step t (length (lent c)) (x .good) (mid-runs c t x live) (mid-lends c t x) (Writing rq from k) pend refl (faultOf d)))
+        (breaks f (i + 1) xs (b ∷ rest) t d l x e)
+
+    -- A message that carries `part`, from `from` on; ys are the call's pieces up to its last.
+    module _ (from : ℕ) (part : List ℕ) (fits : from + length part ≤ length (lent c)) (there : take (length part) (drop from (lent c)) ≡ part)
+        (carries : carried rq from (lent c) ≡ part) (ys todo : List (List ℕ)) (upto : all c ≡ ys ++ todo)
+        (on : (f i : ℕ) (t : St) → n ≤ f → Mid c t → Goes c f i ys accepted (resumed t rq from (lent c))) where
+      granted-piece : (k : World → Step Session → Run Session) (w′ : World) (s′ : Step Session) (p : Piece)
+          → granted core (c .host) (lent c) k w′ s′ (showOf (s′ .rx) (s′ .msg) (pieceReply from (length part) p))
+          ≡ grantWrite core (c .host) (lent c) k w′ s′ (bytesIn part p) (c .host .writes (w′ .writes))
+      granted-piece k w′ s′ (P.Header id arg) = refl
+      granted-piece k w′ s′ P.Lent = rw (le-leb (from + length part) (length (lent c)) fits, there)
+      granted-piece k w′ s′ P.Comma = refl
+      granted-piece k w′ s′ (P.Digits m) = refl
+      granted-piece k w′ s′ (P.Inner id) = refl
+      granted-piece k w′ s′ (P.Word x) = refl
+      granted-piece k w′ s′ P.End = refl
+
+      -- the k-th piece p goes out, and ps are behind it
+      piece-ok : (f i k : ℕ) (xs : List (List ℕ)) (t : St) (p : Piece) (ps : List Piece) → n ≤ f → Mid c t
+          → drop k (pieceList rq (length part)) ≡ p ∷ ps
+          → ys ≡ xs ++ bytesIn part p ∷ map (bytesIn part) ps
+          → ((t′ : St) → Mid c t′ → Goes c f (i + 1) (xs ++ bytesIn part p ∷ []) accepted (wroteOn t′ rq from (k + 1) (lent c)))
+          → Goes c (suc f) i xs accepted (out (sendPiece (t .ses) rq from (length part) k) (t .rx) (t .msg))
+      unfolding run
+      piece-ok f i k xs t p ps l x at-k e next =
+          let t₁ : St = st (at (t .ses) (t .ses .buf) (Writing rq from (k + 1))) (t .rx) (t .msg) in
+          let x₁ : Mid c t₁ = mid-pending c t (Writing rq from (k + 1)) x in
+          let o : Reply = pieceReply from (length part) p in
+          rw (piece-at rq (length part) k (p ∷ ps) at-k)
+          (subst (Ok c)
+          (sym (granted-piece (λ w′ s′. run core (c .host) (lent c) f w′ s′) (wrote c i xs accepted) (stepOf (record { st = t₁; reply = o })) p))
+          (write-ok f i xs (map (bytesIn part) ps ++ todo) (bytesIn part p) t₁ o from (k + 1) l x₁ refl
+          (upto ∙ ap (λ (y : List (List ℕ)). y ++ todo) e ∙ append-assoc xs (bytesIn part p ∷ map (bytesIn part) ps) todo)
+          (next t₁ x₁) (c .host .writes i)))
+
+      -- a piece was accepted, and ps are still to go
+      pieces-ok : (ps : List Piece) (m f i k : ℕ) (xs : List (List ℕ)) (t : St) → Sent m ps → n + m ≤ f → 0 < k → Mid c t
+          → drop k (pieceList rq (length part)) ≡ ps
+          → ys ≡ xs ++ map (bytesIn part) ps → Goes c f i xs accepted (wroteOn t rq from k (lent c))
+      pieces-ok [] m f i k xs t z l p x at-k e =
+          rw (wrote-last t rq from k (lent c) p (rw carries at-k), sym (append-nil xs) ∙ sym e) (on f i t (omega arith) x)
+      pieces-ok (b ∷ ps) zero f i k xs t z l p x at-k e = absurd z
+      pieces-ok (b ∷ ps) (suc m) zero i k xs t z l p x at-k e = absurd (omega arith)
+      pieces-ok (b ∷ ps) (suc m) (suc f) i k xs t z l p x at-k e =
+          rw (wrote-more t rq from k (lent c) p b ps (rw carries at-k) (z .0), carries)
+          (piece-ok f i k xs t b ps (omega arith) x at-k e
+          (λ t′ x′. pieces-ok ps m f (i + 1) (k + 1) (xs ++ bytesIn part b ∷ []) t′ (z .1) (omega arith) (omega arith) x′
+          (drop-rest (pieceList rq (length part)) (b ∷ ps) k at-k)
+          (e ∙ sym (append-snoc xs (bytesIn part b) (map (bytesIn part) ps)))))
+
+      -- the message goes out in pieces, from the first
+      pub apart-ok : (f i : ℕ) (xs : List (List ℕ)) (t : St) → n + 5 ≤ f → Mid c t → ys ≡ xs ++ apart published (meant rq part)
+          → Goes c f i xs accepted (out (sendPiece (t .ses) rq from (length part) 0) (t .rx) (t .msg))
+      unfolding pieceList
+      apart-ok zero i xs t l x e = absurd (omega arith)
+      apart-ok (suc f) i xs t l x e =
+          let p : Piece = headerOf rq (length part) in
+          let ps : List Piece = drop 1 (pieceList rq (length part)) in
+          let e₁ : ys ≡ xs ++ bytesIn part p ∷ map (bytesIn part) ps = e ∙ ap (λ (y : List (List ℕ)). xs ++ y) (apart-pieces rq part) in
+          piece-ok f i 0 xs t p ps (omega arith) x refl e₁
+          (λ t′ x′. pieces-ok ps 4 f (i + 1) 1 (xs ++ bytesIn part p ∷ []) t′ (pieces-sent rq (length part) .1) (omega arith) (omega arith) x′ refl
+          (e₁ ∙ sym (append-snoc xs (bytesIn part p) (map (bytesIn part) ps))))
+
+      -- .. or whole, from the free end of the buffer
+      whole-ok : (f i : ℕ) (xs : List (List ℕ)) (t : St) (m : List ℕ) → n < f → Mid c t → length (held t) + length m ≤ t .ses .capacity
+          → ys ≡ xs ++ m ∷ []
+          → Goes c f i xs accepted (record {
+            st = st (at (t .ses) ((tidied t) .ses .buf) (Writing rq from 0)) (over ((tidied t) .rx) ((tidied t) .ses .buf .tail) m) (t .msg);
+            reply = R.WriteRx ((tidied t) .ses .buf .tail) (length m);
+          })
+      unfolding run wroteOn
+      whole-ok zero i xs t m l x fit e = absurd (omega arith)
+      whole-ok (suc f) i xs t m l x fit e =
+          let t₁ : St = st (at (t .ses) ((tidied t) .ses .buf) (Writing rq from 0)) (over ((tidied t) .rx) ((tidied t) .ses .buf .tail) m) (t .msg) in
+          let x₁ : Mid c t₁ = record {
+            good = placed-good t (x .good) m fit (Writing rq from 0);
+            frame = x .frame;
+            same = placed-held t (x .good) m fit ∙ x .same;
+          } in
+          rw (le-leb _ _ (placed-inside t (x .good) m fit), placed-there t (x .good) m fit)
+          (write-ok f i xs todo m t₁ (R.WriteRx ((tidied t) .ses .buf .tail) (length m)) from 0 (omega arith) x₁ refl
+          (upto ∙ ap (λ (y : List (List ℕ)). y ++ todo) e ∙ append-assoc xs (m ∷ []) todo)
+          (rw (sym e) (on f (i + 1) t₁ (omega arith) x₁)) (c .host .writes i))
+
+      pub message-ok : (f i : ℕ) (xs : List (List ℕ)) (t : St) → n + 5 ≤ f → Mid c t
+          → ys ≡ xs ++ pieces published (free c) (meant rq part)
+          → Goes c f i xs accepted (beside (messageOut (t .ses) (t .rx) rq from part) (t .msg))
+      message-ok f i xs t l x e = go (decLe (length m) (free c))
+        where
+          m : List ℕ
+          m = bytesOfRequest published (meant rq part)
+
+          size : t .ses .capacity ≡ c .state .ses .capacity
+          size = ap (λ (ψ : Frame). ψ .capacity) (x .frame)
+
+          count : length (held t) ≡ length (held (c .state))
+          count = ap length (x .same)
+
+          go : Dec (length m ≤ free c) → Goes c f i xs accepted (beside (messageOut (t .ses) (t .rx) rq from part) (t .msg))
+          go (yes fit) =
+              let within = held-length (t .rx) (t .ses .buf) (sound-of t (x .good)) in
+              let room : length (held t) + length m ≤ t .ses .capacity = omega (arith, x .good, size, count) in
+              rw (message-whole t (x .good) rq from part room)
+              (whole-ok f i xs t m (omega arith) x room (e ∙ ap (λ (y : List (List ℕ)). xs ++ y) (pieces-whole (free c) (meant rq part) fit)))
+          go (no wide) =
+              let full : t .ses .capacity < length (held t) + length m = omega (arith, size, count) in
+              rw (message-apart t (x .good) rq from part full)
+              (apart-ok _ i xs (tidied t) l (mid-tidied c t x)
+              (e ∙ ap (λ (y : List (List ℕ)). xs ++ y) (pieces-apart (free c) (meant rq part) (omega arith))))
+
+  -- a call of one message: with a path, or a header only
+  module _ (lets : LetIn c) (good : Good (c .state)) (live : c .state .ses .ended ≡ false) (rq : Request) (breaks : Breaks c (later c) rq)
+      (on : Follows c lets rq) where
+    pub path-ok : (f : ℕ) → messages (c .call) ≡ meant rq (lent c) ∷ [] → carried rq 0 (lent c) ≡ lent c → later c + 5 ≤ f
+        → Goes c f (c .world .writes) [] accepted (beside (messageOut (started c .ses) (c .state .rx) rq 0 (lent c)) (c .state .msg))
+    path-ok f one carries l =
+        message-ok live rq (later c) breaks 0 (lent c) (omega arith) (take-length (lent c)) carries (all c) [] (sym (append-nil (all c))) on f
+        (c .world .writes) [] (started c) l (mid-started c good)
+        (all-is c lets ∙ ap (piecesOf published (free c)) one ∙ append-nil (pieces published (free c) (meant rq (lent c))))
+
+    pub bare-ok : (f : ℕ) → messages (c .call) ≡ meant rq [] ∷ [] → messageOf published (meant rq []) .parts ≡ [] → carried rq 0 (lent c) ≡ []
+        → later c + 5 ≤ f
+        → Goes c f (c .world .writes) [] accepted (out (sendPiece (started c .ses) rq 0 0 0) (c .state .rx) (c .state .msg))
+    bare-ok f one bare carries l =
+        apart-ok live rq (later c) breaks 0 [] (omega arith) refl carries (all c) [] (sym (append-nil (all c))) on f (c .world .writes) []
+        (started c) l (mid-started c good)
+        (all-is c lets ∙ ap (piecesOf published (free c)) one ∙ append-nil (pieces published (free c) (meant rq []))
+        ∙ pieces-bare (free c) (meant rq []) bare)

@@ -1,0 +1,104 @@
+-- A call on its way, before it reads: what it is to come to, and the states it goes through.
+-- Assumes nothing.
+use Prim.Native.Nat.{ℕ, _+_, _-_}
+use mathlib.Core.Bool.{false}
+use mathlib.Core.List.{List, [], _++_}
+use mathlib.Core.Option.{Option, none}
+use mathlib.Core.Path.{_≡_, refl, ap, _∙_}
+use lib.ListN.{length}
+use Rattle.protocol.specs.Answers.{Answer}
+use Rattle.protocol.specs.Calls.{Call, refusal, messages}
+use Rattle.protocol.specs.Ids.{published}
+use Rattle.protocol.specs.Reader.{Config, Report, unless, onReport, program}
+use Rattle.session.specs.declared.Pending.{Pending}
+use Rattle.session.specs.declared.Session.{Session}
+use Rattle.session.specs.Calls.{settingOf}
+use Rattle.session.specs.Core.{stepOf, core}
+use Rattle.session.specs.Faithful.{piecesOf, unlessPieces, callPieces}
+use Rattle.session.specs.Host.{Host, World, lentOf, Run, run}
+use Rattle.session.specs.State.{St, st, Out, at, begun, Good}
+use Rattle.session.specs.Steps.{tidied}
+use Rattle.session.proofs.Buf.{good-pending, good-tidied, held-tidied}
+use Rattle.session.proofs.Run.{configOf, Comes}
+use Rattle.session.proofs.Turns.{held, Frame, frameOf}
+
+-- a call of a session, with its buffers, against a host in some world
+pub record Site : Type 0 where
+  pub host : Host
+  pub world : World
+  pub state : St
+  pub call : Call
+
+module _ (c : Site) where
+  abbrev pub lent : List ℕ
+  lent = lentOf (c .call)
+
+  -- the plain reader for the session, and the pieces that it has for the call
+  abbrev pub reader : Config
+  reader = configOf (c .state .ses) (c .host .close)
+
+  abbrev pub free : ℕ
+  free = c .state .ses .capacity - length (held (c .state))
+
+  abbrev pub all : List (List ℕ)
+  all = callPieces reader (c .call) (length (held (c .state)))
+
+  abbrev pub unread : List ℕ
+  unread = held (c .state) ++ c .world .left
+
+  abbrev pub Ok : Run Session → Type 0
+  Ok o = Comes reader (c .host .end) (c .call) unread (length (held (c .state))) o
+
+  -- the world after i writes in all, where xs of the call's pieces were accepted, and r reported
+  abbrev pub wrote : ℕ → List (List ℕ) → Report → World
+  wrote i xs r = record { left = c .world .left; reads = c .world .reads; writes = i; asks = []; pieces = xs; outcome = r; closes = [] }
+
+  -- from there, with f steps left, the call comes to what the plain reader does, if the session's last step was o
+  abbrev pub Goes : ℕ → ℕ → List (List ℕ) → Report → Out → Type 0
+  Goes f i xs r o = Ok (run core (c .host) lent f (wrote i xs r) (stepOf o))
+
+  -- the steps that what follows a write may take: a read for each byte to come, the end error, the answer; or the close and the answer
+  abbrev pub later : ℕ
+  later = length (c .world .left) + 2
+
+  -- ---- the states
+
+  abbrev pub started : St
+  started = st (begun (c .state .ses) (length lent)) (c .state .rx) (c .state .msg)
+
+  -- the call has begun, and nothing has been read
+  pub record Mid (t : St) : Type 0 where
+    pub good : Good t
+    pub frame : frameOf (t .ses) ≡ frameOf (started .ses)
+    pub same : held t ≡ held (c .state)
+
+  pub mid-started : Good (c .state) → Mid started
+  mid-started g =
+      record {
+        good = record { order = g .order; inside = g .inside; rx = g .rx; least = g .least; aside = g .aside; msg = g .msg };
+        frame = refl;
+        same = refl;
+      }
+
+  pub mid-pending : (t : St) (p : Pending) → Mid t → Mid (st (at (t .ses) (t .ses .buf) p) (t .rx) (t .msg))
+  mid-pending t p x = record { good = good-pending t (x .good) p; frame = x .frame; same = x .same }
+
+  pub mid-tidied : (t : St) → Mid t → Mid (tidied t)
+  mid-tidied t x = record { good = good-tidied t (x .good); frame = x .frame; same = held-tidied t (x .good) ∙ x .same }
+
+  pub mid-runs : (t : St) → Mid t → c .state .ses .ended ≡ false → t .ses .ended ≡ false
+  mid-runs t x e = ap (λ (ψ : Frame). ψ .ended) (x .frame) ∙ e
+
+  pub mid-lends : (t : St) → Mid t → t .ses .lent ≡ length lent
+  mid-lends t x = ap (λ (ψ : Frame). ψ .lent) (x .frame)
+
+  -- ---- a call that is let in
+
+  abbrev pub LetIn : Type 0
+  LetIn = refusal (settingOf (c .state .ses)) (c .call) ≡ none
+
+  pub program-is : LetIn → (r : Report) → program reader r (c .call) ≡ onReport reader r (c .call)
+  program-is lets r = ap (λ (o : Option Answer). unless o (onReport reader r (c .call))) lets
+
+  pub all-is : LetIn → all ≡ piecesOf published free (messages (c .call))
+  all-is lets = ap (λ (o : Option Answer). unlessPieces o (piecesOf published free (messages (c .call)))) lets

@@ -1,0 +1,157 @@
+-- Demand 3, sentence by sentence, of any system: an engine and how a session is opened on it.
+-- Assumes nothing.
+use Prim.Native.Nat.{ℕ, _+_, _≤_, _<_, _^_}
+use mathlib.Core.Bool.{Bool, true, false}
+use mathlib.Core.List.{List, [], _∷_, _++_}
+use mathlib.Core.Path.{_≡_}
+use lib.ListN.{length, getD}
+use Rattle.protocol.specs.Answers as A
+use Rattle.protocol.specs.Answers.{Answer, End, closed, error}
+use Rattle.protocol.specs.Bytes.{Bytes}
+use Rattle.protocol.specs.Calls.{Call, call, nextEntry, nextChunk}
+use Rattle.protocol.specs.Features.{featuresOf}
+use Rattle.protocol.specs.Ids.{published}
+use Rattle.protocol.specs.Messages.{ask, rcv2, send, snd2, chunk, done, quit, joined}
+use Rattle.protocol.specs.Reader.{Config, Report, accepted, broke, writes, after, plainCall, plainAnswers, plainWrites, isQuit}
+use Rattle.protocol.specs.Records.{argAt}
+use Rattle.reader.specs.Wider.{Unstopped, Like}
+use Rattle.session.specs.Faithful.{AllAtNeeds, closesFor}
+use Rattle.session.specs.Host.{Engine, Host, Entry, atStart, logOf}
+
+-- an engine, and the opening of a session on it: an answer's number, 0 for done, and the session
+pub record Opened (X : Type 0) : Type 0 where
+  pub number : ℕ
+  pub x : X
+
+-- `place`: what may stand where the session is put
+pub record System (X : Type 0) : Type 1 where
+  pub engine : Engine X
+  pub opened : X → (banner rx msg : List ℕ) → Opened X
+  pub place : X → Type 0
+
+-- an error's code has 32 bits
+abbrev pub Coded : End → Type 0
+Coded closed = Unit {0}
+Coded (error c) = c < 0x1_0000_0000
+
+abbrev pub CodedReport : Report → Type 0
+CodedReport accepted = Unit {0}
+CodedReport (broke e) = Coded e
+
+-- a call's numbers have 32 bits, and the length of what it lends 64
+abbrev pub Wide : Call → Type 0
+Wide (call (ask i p)) = length p < 2 ^ 64
+Wide (call (rcv2 p f)) = (length p < 2 ^ 64) × (f < 0x1_0000_0000)
+Wide (call (send p m)) = (length p < 2 ^ 64) × (m < 0x1_0000_0000)
+Wide (call (snd2 p m f)) = (length p < 2 ^ 64) × ((m < 0x1_0000_0000) × (f < 0x1_0000_0000))
+Wide (call (chunk x)) = length x < 2 ^ 64
+Wide (call (done t)) = t < 0x1_0000_0000
+Wide (call quit) = Unit {0}
+Wide (nextEntry v) = Unit {0}
+Wide nextChunk = Unit {0}
+
+abbrev pub AllWide : List Call → Type 0
+AllWide [] = Unit {0}
+AllWide (q ∷ qs) = Wide q × AllWide qs
+
+-- One side: what stood in the session's place; both buffers, holding any bytes, on lengths that opening takes (no slice has 2^63 bytes);
+-- a host that accepts every write and makes any counts, leaving any bytes in the rest of each window; the incoming bytes.
+pub record Side {X : Type 0} (S : System X) (c : ℕ) (close : Report) : Type 0 where
+  pub x : X
+  pub placed : S .place x
+  pub rx : List ℕ
+  pub msg : List ℕ
+  pub host : Host
+  pub incoming : List ℕ
+  pub capacity : length rx ≡ c
+  pub room : c ≤ length msg
+  pub wide : length msg < 2 ^ 63
+  pub bytes : Bytes incoming
+  pub accepts : (i : ℕ) → host .writes i ≡ accepted
+  pub closes : host .close ≡ close
+  pub coded : Coded (host .end)
+
+-- the plain reader for a session: its capacity and banner, the close report
+abbrev pub reader : (banner : List ℕ) → ℕ → Report → Config
+reader banner c close = record { setting = record { dialect = published; features = featuresOf banner; ended = false }; capacity = c; close = close }
+
+-- the log of the calls, from the session that opening leaves
+abbrev pub logFrom : {X : Type 0} {c : ℕ} {close : Report} (S : System X) → (banner : List ℕ) → List Call → Side S c close → List Entry
+logFrom S banner qs a = logOf (S .engine) (a .host) qs (atStart (a .incoming)) (S .opened (a .x) banner (a .rx) (a .msg) .x) (a .rx) (a .msg)
+
+abbrev pub answersOf : List Entry → List Answer
+answersOf [] = []
+answersOf (e ∷ es) = e .answer ∷ answersOf es
+
+abbrev pub writtenOf : List Entry → List ℕ
+writtenOf [] = []
+writtenOf (e ∷ es) = joined (e .pieces) ++ writtenOf es
+
+-- In every call each read stands at a need, behind all that the call writes, and what the call leaves unread is what the plain
+-- reader leaves.
+abbrev pub ReadsAt : Config → End → List Call → List ℕ → List Entry → Type 0
+ReadsAt g e [] v es = Unit {0}
+ReadsAt g e (q ∷ qs) v [] = ⊥
+ReadsAt g e (q ∷ qs) v (x ∷ xs) =
+    AllAtNeeds g accepted q v (x .pieces) (x .asks)
+    × ((joined (x .pieces) ≡ writes g q) × ((x .unread ≡ plainCall g e accepted q v .unread) × ReadsAt (after g q) e qs (x .unread) xs))
+
+-- one close for a quit that is not refused, behind what it writes, and no other
+abbrev pub ClosesAt : Config → List Call → List Entry → Type 0
+ClosesAt g [] es = Unit {0}
+ClosesAt g (q ∷ qs) [] = ⊥
+ClosesAt g (q ∷ qs) (x ∷ xs) = (x .closes ≡ closesFor (isQuit q) (g .setting .ended) (x .pieces)) × ClosesAt (after g q) qs xs
+
+-- the k-th answer of a log
+abbrev pub nth : List Entry → ℕ → Answer
+nth es k = getD (answersOf es) k A.done
+
+abbrev pub unreads : List Entry → List (List ℕ)
+unreads [] = []
+unreads (e ∷ es) = e .unread ∷ unreads es
+
+-- the length of the FAIL that the k-th call would meet: the arg of what is unread before it
+abbrev pub failLength : List ℕ → List Entry → ℕ → ℕ
+failLength incoming es k = argAt (getD (incoming ∷ unreads es) k [])
+
+module _ {X : Type 0} (S : System X) (banner : List ℕ) (close : Report) (qs : List Call) (c d : ℕ) (a : Side S c close) (b : Side S d close) where
+  abbrev logA : List Entry
+  logA = logFrom S banner qs a
+
+  abbrev logB : List Entry
+  logB = logFrom S banner qs b
+
+  pub record Demand3 : Type 0 where
+    -- "Sessions A and B, with one banner, make the list from fresh, on receive buffers of c and d bytes"
+    pub opens-a : S .opened (a .x) banner (a .rx) (a .msg) .number ≡ 0
+    pub opens-b : S .opened (b .x) banner (b .rx) (b .msg) .number ≡ 0
+    -- "every call ends"
+    pub ends-a : length logA ≡ length qs
+    pub ends-b : length logB ≡ length qs
+    -- "each session reads only where document 01's plain reader for it says"
+    pub reads-a : ReadsAt (reader banner c close) (a .host .end) qs (a .incoming) logA
+    pub reads-b : ReadsAt (reader banner d close) (b .host .end) qs (b .incoming) logB
+    -- "its answers .. equal that reader's"
+    pub answers-a : answersOf logA ≡ plainAnswers (reader banner c close) (a .host .end) qs (a .incoming)
+    pub answers-b : answersOf logB ≡ plainAnswers (reader banner d close) (b .host .end) qs (b .incoming)
+    -- ".. and bytes written"
+    pub written-a : writtenOf logA ≡ plainWrites (reader banner c close) qs
+    pub written-b : writtenOf logB ≡ plainWrites (reader banner d close) qs
+    pub closes-a : ClosesAt (reader banner c close) qs logA
+    pub closes-b : ClosesAt (reader banner d close) qs logB
+    -- "B writes what A writes"
+    pub same-writes : writtenOf logB ≡ writtenOf logA
+    -- "Before A's first answer 12, 13 or 17 B gives A's answers; only where A's FAIL text is cut, B's text begins with A's instead"
+    pub before : (k : ℕ) → k < length qs → Unstopped (answersOf logA) k → Like c (failLength (a .incoming) logA k) (nth logA k) (nth logB k)
+    -- a FAIL text is cut where its length is over c, and only there
+    pub uncut : (k : ℕ) → k < length qs → Unstopped (answersOf logA) k → failLength (a .incoming) logA k ≤ c → nth logA k ≡ nth logB k
+    -- "With c = d, equal bytes and equal error, all their answers are equal"
+    pub same : c ≡ d → a .incoming ≡ b .incoming → a .host .end ≡ b .host .end → answersOf logA ≡ answersOf logB
+
+-- The claim: any banner, any close report, any list of calls, any capacities 8 ≤ c ≤ d, any two sides, B's incoming bytes
+-- beginning with A's.
+abbrev pub Claim : {X : Type 0} → System X → Type 0
+Claim {X} S =
+    (banner : List ℕ) (close : Report) (qs : List Call) (c d : ℕ) → 8 ≤ c → c ≤ d → CodedReport close → AllWide qs
+    → (a : Side S c close) (b : Side S d close) (more : List ℕ) → b .incoming ≡ a .incoming ++ more
+    → Demand3 S banner close qs c d a b

@@ -1,0 +1,71 @@
+-- What is claimed of every host, also of one whose writes and close come to faults: each call of the log is the plain reader's.
+-- Assumes nothing.
+use Prim.Native.Nat.{ℕ, _+_, _-_, _≤_, _<_}
+use mathlib.Core.Bool.{Bool, true, false}
+use mathlib.Core.List.{List, [], _∷_, _++_}
+use mathlib.Core.Option.{Option, none, some}
+use mathlib.Core.Path.{_≡_}
+use lib.ListN.{length}
+use Rattle.protocol.specs.Answers.{Answer, End}
+use Rattle.protocol.specs.Calls.{Call, messages, refusal}
+use Rattle.protocol.specs.Ids.{Dialect}
+use Rattle.protocol.specs.Messages.{Request, pieces}
+use Rattle.protocol.specs.Reader.{Config, Report, accepted, broke, short, plain, program, after, plainCall, isQuit}
+use Rattle.session.specs.Host.{Ask, Entry}
+
+-- A read asked at a need of the plain reader, with r reported of the call's writes: of the unread bytes v the reader is given those
+-- that have come, and falls short at need(n), n ≤ c; what it has unread there is what the session holds, fewer than n bytes; the
+-- window is the rest of the buffer from where it starts; the call's pieces have all been written.
+pub record AtNeed (g : Config) (r : Report) (q : Call) (v : List ℕ) (ps : List (List ℕ)) (a : Ask) : Type 0 where
+  pub come : List ℕ
+  pub n : ℕ
+  pub split : v ≡ come ++ a .rest
+  pub falls : plain (g .capacity) (program g r q) come ≡ short n (a .holds)
+  pub fits : n ≤ g .capacity
+  pub fewer : length (a .holds) < n
+  pub window : 0 < a .len
+  pub inside : a .at + a .len ≡ g .capacity
+  pub behind : a .before ≡ ps
+
+abbrev pub AllAtNeeds : Config → Report → Call → List ℕ → List (List ℕ) → List Ask → Type 0
+AllAtNeeds g r q v ps [] = Unit {0}
+AllAtNeeds g r q v ps (a ∷ more) = AtNeed g r q v ps a × AllAtNeeds g r q v ps more
+
+-- the pieces of some messages, with `free` bytes in the free end of the buffer
+abbrev pub piecesOf : Dialect → ℕ → List Request → List (List ℕ)
+piecesOf d free [] = []
+piecesOf d free (q ∷ qs) = pieces d free q ++ piecesOf d free qs
+
+-- ... of a call that begins with n bytes held; none of a refused one
+abbrev pub unlessPieces : Option Answer → List (List ℕ) → List (List ℕ)
+unlessPieces (some a) ps = []
+unlessPieces none ps = ps
+
+abbrev pub callPieces : Config → Call → ℕ → List (List ℕ)
+callPieces g q n = unlessPieces (refusal (g .setting) q) (piecesOf (g .setting .dialect) (g .capacity - n) (messages q))
+
+-- "W keeps the pieces accepted, each whole": all of them, or the first of them
+abbrev pub Accepted : Report → List (List ℕ) → List (List ℕ) → Type 0
+Accepted accepted ps xs = xs ≡ ps
+Accepted (broke e) ps xs = (rest : List (List ℕ)) × (ps ≡ xs ++ rest)
+
+-- one close for a quit that is not refused, behind the call's pieces ps, and no other
+abbrev pub closesFor : (quits ended : Bool) → List (List ℕ) → List (List (List ℕ))
+closesFor true false ps = ps ∷ []
+closesFor true true ps = []
+closesFor false ended ps = []
+
+-- a call of the log, on the unread bytes v
+pub record AsReader (g : Config) (e : End) (q : Call) (v : List ℕ) (x : Entry) : Type 0 where
+  pub answer : x .answer ≡ plainCall g e (x .outcome) q v .answer
+  pub unread : x .unread ≡ plainCall g e (x .outcome) q v .unread
+  pub asks : AllAtNeeds g (x .outcome) q v (x .pieces) (x .asks)
+  pub pieces : Accepted (x .outcome) (callPieces g q (length (x .held))) (x .pieces)
+  pub closes : x .closes ≡ closesFor (isQuit q) (g .setting .ended) (x .pieces)
+
+-- an entry for each call, each as the plain reader has it
+abbrev pub Faithful : Config → End → List Call → List ℕ → List Entry → Type 0
+Faithful g e [] v [] = Unit {0}
+Faithful g e [] v (x ∷ xs) = ⊥
+Faithful g e (q ∷ qs) v [] = ⊥
+Faithful g e (q ∷ qs) v (x ∷ xs) = AsReader g e q v x × Faithful (after g q) e qs (x .unread) xs

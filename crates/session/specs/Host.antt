@@ -1,0 +1,180 @@
+-- The host: it reads into windows, writes pieces, closes, and reports each; and the log of a list of calls made against it.
+-- A session is any engine that takes calls and reports; nothing here looks inside one.
+-- Assumes nothing.
+use Prim.Native.Nat.{ℕ, zero, suc, _+_, _-_, _*_, min, max}
+use mathlib.Core.Bool.{Bool, true, false, _&&_}
+use mathlib.Core.List.{List, [], _∷_, _++_}
+use lib.Dec.{leb, ltb}
+use lib.ListN.{length, take, drop}
+use Rattle.protocol.specs.Answers.{Answer, End}
+use Rattle.protocol.specs.Bytes.{pick, over}
+use Rattle.protocol.specs.Calls.{Call, call, nextEntry, nextChunk, messages}
+use Rattle.protocol.specs.Messages.{ask, rcv2, send, snd2, chunk, done, quit}
+use Rattle.protocol.specs.Reader.{Report, accepted, broke}
+
+-- what the host is told of a step
+pub data Show : Type 0 where
+  -- the call is over
+  told : Answer → Show
+  -- read into this part of the receive buffer
+  read : (at len : ℕ) → Show
+  -- write this part of the receive buffer, this part of the lent path or data, these bytes
+  writeRx : (at len : ℕ) → Show
+  writeLent : (at len : ℕ) → Show
+  writeBytes : List ℕ → Show
+  close : Show
+
+-- a step: what the session is then, every byte of both buffers, what is asked
+pub record Step (X : Type 0) : Type 0 where
+  pub x : X
+  pub rx : List ℕ
+  pub msg : List ℕ
+  pub show : Show
+
+-- A session, seen from outside. It is lent both buffers at each step, and a call's path or data (of a read or a fault only its length
+-- counts). `holds`: the bytes that it has received and not consumed.
+pub record Engine (X : Type 0) : Type 0 where
+  pub start : X → List ℕ → List ℕ → Call → Step X
+  pub onRead : X → List ℕ → List ℕ → (lent : List ℕ) → (count : ℕ) → Step X
+  pub onWrote : X → List ℕ → List ℕ → (lent : List ℕ) → Step X
+  pub onFault : X → List ℕ → List ℕ → (lent : List ℕ) → End → Step X
+  pub holds : X → List ℕ → List ℕ
+
+-- The host's choices: the count of its i-th read; the bytes that this read leaves in the rest of its window; what it reports of its
+-- i-th write; of the close; the error that follows the incoming bytes and persists.
+pub record Host : Type 0 where
+  pub count : ℕ → ℕ
+  pub junk : ℕ → ℕ → ℕ
+  pub writes : ℕ → Report
+  pub close : Report
+  pub end : End
+
+-- a read that was asked: the bytes still to come, those held, the window, the pieces of this call written before
+pub record Ask : Type 0 where
+  pub rest : List ℕ
+  pub holds : List ℕ
+  pub at : ℕ
+  pub len : ℕ
+  pub before : List (List ℕ)
+
+-- Bytes still to come; reads and writes so far. Of this call: the reads asked, the last first; the pieces accepted, in order; the
+-- fault of a write, if one came to a fault; for each close asked, the pieces accepted before it.
+pub record World : Type 0 where
+  pub left : List ℕ
+  pub reads : ℕ
+  pub writes : ℕ
+  pub asks : List Ask
+  pub pieces : List (List ℕ)
+  pub outcome : Report
+  pub closes : List (List (List ℕ))
+
+abbrev pub atStart : List ℕ → World
+atStart incoming = record { left = incoming; reads = 0; writes = 0; asks = []; pieces = []; outcome = accepted; closes = [] }
+
+abbrev pub newCall : World → World
+newCall w = record { left = w .left; reads = w .reads; writes = w .writes; asks = []; pieces = []; outcome = accepted; closes = [] }
+
+-- n of the bytes to come are read, where the engine asked for a read
+abbrev pub hasRead : ℕ → Ask → World → World
+hasRead n a w = record { left = drop n (w .left); reads = w .reads + 1; writes = w .writes; asks = a ∷ w .asks; pieces = w .pieces; outcome = w .outcome; closes = w .closes }
+
+abbrev pub hasWritten : List ℕ → World → World
+hasWritten b w = record { left = w .left; reads = w .reads; writes = w .writes + 1; asks = w .asks; pieces = w .pieces ++ b ∷ []; outcome = w .outcome; closes = w .closes }
+
+abbrev pub hasBroken : End → World → World
+hasBroken e w = record { left = w .left; reads = w .reads; writes = w .writes + 1; asks = w .asks; pieces = w .pieces; outcome = broke e; closes = w .closes }
+
+abbrev pub hasClosed : World → World
+hasClosed w = record { left = w .left; reads = w .reads; writes = w .writes; asks = w .asks; pieces = w .pieces; outcome = w .outcome; closes = w .pieces ∷ w .closes }
+
+-- a count from one to the smaller of the window and what is left
+abbrev pub counted : ℕ → ℕ → ℕ → ℕ
+counted k window left = max 1 (min k (min window left))
+
+abbrev pub filling : (ℕ → ℕ) → ℕ → List ℕ
+filling f zero = []
+filling f (suc n) = f n ∷ filling f n
+
+-- the window, overwritten: the bytes that came, and then any
+abbrev pub windowed : (ℕ → ℕ) → List ℕ → ℕ → ℕ → List ℕ → List ℕ
+windowed f rx at len v = over rx at (v ++ filling f (len - length v))
+
+-- what a call lends
+abbrev pub lentOf : Call → List ℕ
+lentOf (call (ask i p)) = p
+lentOf (call (rcv2 p f)) = p
+lentOf (call (send p m)) = p
+lentOf (call (snd2 p m f)) = p
+lentOf (call (chunk x)) = x
+lentOf (call (done t)) = []
+lentOf (call quit) = []
+lentOf (nextEntry v) = []
+lentOf nextChunk = []
+
+-- how a call against the host comes out. `unended` is a call that asked more than the host can grant: a window of no bytes, a part
+-- outside its buffer, or more steps than were allowed.
+pub data Run (X : Type 0) : Type 0 where
+  over-with : X → (rx msg : List ℕ) → Answer → World → Run X
+  unended : Run X
+
+module _ {X : Type 0} (E : Engine X) (h : Host) (lent : List ℕ) (k : World → Step X → Run X) where
+  abbrev pub grantRead : World → Step X → Ask → List ℕ → Run X
+  grantRead w s a [] = k (hasRead 0 a w) (E .onFault (s .x) (windowed (h .junk (w .reads)) (s .rx) (a .at) (a .len) []) (s .msg) lent (h .end))
+  grantRead w s a (b ∷ bs) =
+      let n = counted (h .count (w .reads)) (a .len) (length (w .left)) in
+      k (hasRead n a w) (E .onRead (s .x) (windowed (h .junk (w .reads)) (s .rx) (a .at) (a .len) (take n (w .left))) (s .msg) lent n)
+
+  abbrev pub grantWrite : World → Step X → List ℕ → Report → Run X
+  grantWrite w s b accepted = k (hasWritten b w) (E .onWrote (s .x) (s .rx) (s .msg) lent)
+  grantWrite w s b (broke e) = k (hasBroken e w) (E .onFault (s .x) (s .rx) (s .msg) lent e)
+
+  abbrev pub grantClose : World → Step X → Report → Run X
+  grantClose w s accepted = k (hasClosed w) (E .onWrote (s .x) (s .rx) (s .msg) lent)
+  grantClose w s (broke e) = k (hasClosed w) (E .onFault (s .x) (s .rx) (s .msg) lent e)
+
+  abbrev pub granted : World → Step X → Show → Run X
+  granted w s (told a) = over-with (s .x) (s .rx) (s .msg) a w
+  granted w s (read at len) =
+      pick (ltb 0 len && leb (at + len) (length (s .rx)))
+      (grantRead w s (record { rest = w .left; holds = E .holds (s .x) (s .rx); at = at; len = len; before = w .pieces }) (w .left))
+      unended
+  granted w s (writeRx at len) =
+      pick (leb (at + len) (length (s .rx))) (grantWrite w s (take len (drop at (s .rx))) (h .writes (w .writes))) unended
+  granted w s (writeLent at len) =
+      pick (leb (at + len) (length lent)) (grantWrite w s (take len (drop at lent)) (h .writes (w .writes))) unended
+  granted w s (writeBytes b) = grantWrite w s b (h .writes (w .writes))
+  granted w s close = grantClose w s (h .close)
+
+-- at most n steps
+unfoldable pub run : {X : Type 0} → Engine X → Host → List ℕ → ℕ → World → Step X → Run X
+run E h lent zero w s = unended
+run E h lent (suc n) w s = granted E h lent (λ w′ s′. run E h lent n w′ s′) w s (s .show)
+
+-- Steps allowed to a call: a read for each byte to come, five pieces for each message, the end error, the close, the answer.
+abbrev pub enough : Call → World → ℕ
+enough q w = length (w .left) + (5 * length (messages q) + 5)
+
+abbrev pub runCall : {X : Type 0} → Engine X → Host → Call → World → X → List ℕ → List ℕ → Run X
+runCall E h q w x rx msg = run E h (lentOf q) (enough q w) (newCall w) (E .start x rx msg q)
+
+-- what is logged of a call
+pub record Entry : Type 0 where
+  -- the bytes held when it began
+  pub held : List ℕ
+  pub answer : Answer
+  pub asks : List Ask
+  pub pieces : List (List ℕ)
+  pub outcome : Report
+  pub closes : List (List (List ℕ))
+  -- the bytes held and still to come when it was over
+  pub unread : List ℕ
+
+abbrev pub onRun : {X : Type 0} → Engine X → (held : List ℕ) → (World → X → List ℕ → List ℕ → List Entry) → Run X → List Entry
+onRun E held k (over-with x rx msg a w) =
+    record { held = held; answer = a; asks = w .asks; pieces = w .pieces; outcome = w .outcome; closes = w .closes; unread = E .holds x rx ++ w .left } ∷ k w x rx msg
+onRun E held k unended = []
+
+-- a list of calls; the log ends early where a call does not end
+unfoldable pub logOf : {X : Type 0} → Engine X → Host → List Call → World → X → List ℕ → List ℕ → List Entry
+logOf E h [] w x rx msg = []
+logOf E h (q ∷ qs) w x rx msg = onRun E (E .holds x rx) (λ w′ x′ rx′ msg′. logOf E h qs w′ x′ rx′ msg′) (runCall E h q w x rx msg)

@@ -1,0 +1,10 @@
+pub mod State
+pub mod Phases
+pub mod Steps
+pub mod Calls
+pub mod Reports
+pub mod Shown
+pub mod Host
+pub mod Core
+pub mod Faithful
+pub mod Demand3
