@@ -104,7 +104,7 @@ module _ (s : St) (x : Inv s) where
   abbrev stayed : ℕ → Out
   stayed t = record { st = st (at (s .ses) (cursor (s .ses .buf .head) t) (s .ses .pending)) (s .rx) (s .msg); reply = R.Read t (s .ses .capacity - t) }
 
-  stays-read : (n k : ℕ) → stays s n k ≡ true → reportRead s n k ≡ stayed (s .ses .buf .tail + k)
+  pub stays-read : (n k : ℕ) → stays s n k ≡ true → reportRead s n k ≡ stayed (s .ses .buf .tail + k)
   unfolding reportRead readAt readIn
   stays-read n k e =
       let (z, y) = and-eq-true-iff (eqb (refusalAt s n) 0) (staysAt (s .ses .pending) (s .ses) k) .0 e in

@@ -50,7 +50,7 @@ pub fn open(banner: &[u8], capacity: usize, message: usize) -> Opened
 }
 
 // 3 other buffers, 6 an ended session, 4 a pending call; 0 none.
-fn call_refusal(s: Session, rx: usize, msg: usize) -> u8
+pub fn call_refusal(s: Session, rx: usize, msg: usize) -> u8
     ensures { λ r. ⌜ r ≡ callRefusal s rx msg ⌝ }
 {
     if s.misfit(rx, msg) {

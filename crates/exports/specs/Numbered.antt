@@ -1,0 +1,27 @@
+-- Numbers that cross, and what they stand for; what the exported functions' own steps come to.
+-- Assumes nothing.
+use Prim.Native.Nat.{ℕ, _+_}
+use mathlib.Core.Bool.{_&&_}
+use mathlib.Core.List.{List}
+use mathlib.Core.Option.{Option, none, some}
+use lib.Dec.{eqb}
+use Rattle.protocol.specs.Bytes.{pick}
+use Rattle.boundary.specs.Crossing.{OpenCrossed, staysAt}
+use Rattle.record.specs.Record.{loaded}
+use Rattle.request.specs.declared.Request.{Request}
+use Rattle.session.specs.Reports.{reportRefusal}
+use Rattle.session.specs.declared.Fault.{Fault}
+use Rattle.session.specs.declared.Fault.the-variants as F
+use Rattle.session.specs.declared.Session.{Session}
+use Rattle.exports.specs.declared.Asked.{Asked}
+use Rattle.exports.specs.declared.Asked.the-variants as A
+
+abbrev pub asked : Asked → Option Request
+asked (A.Request q) = some q
+asked A.Other = none
+
+abbrev pub faultNumbered : (kind code : ℕ) → Fault
+faultNumbered kind code = pick (eqb kind 0) F.Closed (F.Error code)
+
+abbrev pub openCrossed : List ℕ → ℕ → OpenCrossed
+openCrossed rec n = record { rec = rec; number = n }

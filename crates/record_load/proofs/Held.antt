@@ -1,0 +1,44 @@
+-- What a record holds, by its length and its numbers. Assumes nothing.
+use mathlib.Core.Bool.{Bool, true, false, _&&_, and-eq-true-iff}
+use mathlib.Core.List.{List}
+use mathlib.Core.Option.{none, some}
+use mathlib.Core.Path.{_≡_, refl, sym, _∙_}
+use Prim.Native.Nat.{ℕ, _<_}
+use native.Mathlib.Omega.{arith}
+use borrow.Author.Tests.{eqb-true, ltb-true}
+use lib.Dec.{eqb, ltb}
+use lib.ListN.{length}
+use Rattle.record.specs.Fields.{known, sessionOf}
+use Rattle.record.specs.Record.{size, wordOf, loaded}
+use Rattle.session.specs.declared.Session.{Session}
+
+module _ (rec : List ℕ) where
+  abbrev pub holds : Bool
+  holds = eqb (length rec) size && known (wordOf rec)
+
+  pub held : holds ≡ true → some (sessionOf (wordOf rec)) ≡ loaded rec
+  unfolding loaded
+  held e = rw e
+
+  pub unheld : holds ≡ false → none ≡ loaded rec
+  unfolding loaded
+  unheld e = rw e
+
+  pub held-size : holds ≡ true → length rec ≡ size
+  held-size e = eqb-true (length rec) size (and-eq-true-iff (eqb (length rec) size) (known (wordOf rec)) .0 e .0)
+
+  pub held-state : holds ≡ true → wordOf rec 7 < 31
+  unfolding known
+  held-state e =
+      let w = wordOf rec in
+      let k = and-eq-true-iff (eqb (length rec) size) (known w) .0 e .1 in
+      let i = and-eq-true-iff (ltb (w 5) 128 && ltb (w 6) 2 && ltb (w 7) 31) (ltb (w 8) 2) .0 k .0 in
+      ltb-true (w 7) 31 (and-eq-true-iff (ltb (w 5) 128 && ltb (w 6) 2) (ltb (w 7) 31) .0 i .1)
+
+  -- a record that holds a session is 192 bytes long
+  pub loaded-size : (s : Session) → some s ≡ loaded rec → length rec ≡ size
+  loaded-size s e = go holds refl
+    where
+      go : (b : Bool) → holds ≡ b → length rec ≡ size
+      go true h = held-size h
+      go false h = let n : none ≡ some s = unheld h ∙ sym e in let z : _≡_ {A = ℕ} 0 1 = cc in absurd (omega arith)
