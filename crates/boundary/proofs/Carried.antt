@@ -64,6 +64,32 @@ and-four true true false d e = absurd (true≢false (sym e))
 and-four true false c d e = absurd (true≢false (sym e))
 and-four false b c d e = absurd (true≢false (sym e))
 
+-- ---- a read that leaves its need short
+
+module _ (s : St) where
+  -- only tail moves
+  abbrev pub stayed : ℕ → Out
+  stayed t = record { st = st (at (s .ses) (cursor (s .ses .buf .head) t) (s .ses .pending)) (s .rx) (s .msg); reply = R.Read t (s .ses .capacity - t) }
+
+  pub stays-read : (n k : ℕ) → stays s n k ≡ true → reportRead s n k ≡ stayed (s .ses .buf .tail + k)
+  unfolding reportRead readAt readIn
+  stays-read n k e =
+      let (z, y) = and-eq-true-iff (eqb (refusalAt s n) 0) (staysAt (s .ses .pending) (s .ses) k) .0 e in
+      rw (eqb-true (refusalAt s n) 0 z) (go (s .ses .pending) refl y)
+    where
+      t : ℕ
+      t = s .ses .buf .tail + k
+
+      go : (p : Pending) → s .ses .pending ≡ p → staysAt p (s .ses) k ≡ true → readAt p s k ≡ stayed t
+      go Idle pend y = absurd (true≢false (sym y))
+      go (Reading p until lost) pend y =
+          let (a, b, c, d) = and-four (ltb 0 k) (leb k (s .ses .capacity - s .ses .buf .tail)) (ltb t until) (ltb t (s .ses .capacity)) y in
+          let i : 0 < k = ltb-true 0 k a in
+          rw (ne-eqb k 0 (omega arith), le-ltb (s .ses .capacity - s .ses .buf .tail) k (leb-true _ _ b), c, d)
+          (ap (λ q. record { st = st (at (s .ses) (cursor (s .ses .buf .head) t) q) (s .rx) (s .msg); reply = R.Read t (s .ses .capacity - t) }) (sym pend))
+      go (Writing q from piece) pend y = absurd (true≢false (sym y))
+      go (Closing failed code) pend y = absurd (true≢false (sym y))
+
 -- ---- one step, from a session that was stored
 
 module _ (s : St) (x : Inv s) where
@@ -100,36 +126,13 @@ module _ (s : St) (x : Inv s) where
   unfolding crossFault
   fault-image lent e f = ap stepOf (loads _) ∙ back-image (reportFault s (length lent) (faultOf e)) f
 
-  -- a read that leaves its need short: only tail moves
-  abbrev stayed : ℕ → Out
-  stayed t = record { st = st (at (s .ses) (cursor (s .ses .buf .head) t) (s .ses .pending)) (s .rx) (s .msg); reply = R.Read t (s .ses .capacity - t) }
-
-  pub stays-read : (n k : ℕ) → stays s n k ≡ true → reportRead s n k ≡ stayed (s .ses .buf .tail + k)
-  unfolding reportRead readAt readIn
-  stays-read n k e =
-      let (z, y) = and-eq-true-iff (eqb (refusalAt s n) 0) (staysAt (s .ses .pending) (s .ses) k) .0 e in
-      rw (eqb-true (refusalAt s n) 0 z) (go (s .ses .pending) refl y)
-    where
-      t : ℕ
-      t = s .ses .buf .tail + k
-
-      go : (p : Pending) → s .ses .pending ≡ p → staysAt p (s .ses) k ≡ true → readAt p s k ≡ stayed t
-      go Idle pend y = absurd (true≢false (sym y))
-      go (Reading p until lost) pend y =
-          let (a, b, c, d) = and-four (ltb 0 k) (leb k (s .ses .capacity - s .ses .buf .tail)) (ltb t until) (ltb t (s .ses .capacity)) y in
-          let i : 0 < k = ltb-true 0 k a in
-          rw (ne-eqb k 0 (omega arith), le-ltb (s .ses .capacity - s .ses .buf .tail) k (leb-true _ _ b), c, d)
-          (ap (λ q. record { st = st (at (s .ses) (cursor (s .ses .buf .head) t) q) (s .rx) (s .msg); reply = R.Read t (s .ses .capacity - t) }) (sym pend))
-      go (Writing q from piece) pend y = absurd (true≢false (sym y))
-      go (Closing failed code) pend y = absurd (true≢false (sym y))
-
   -- what is put back of such a read
   abbrev tailed : ℕ → Reply → Step (List ℕ)
   tailed t r = stepOf (crossed (put rec 24 (bytesOf 8 t)) (s .rx) (s .msg) (put blank 0 (replyBytes r)) 1)
 
-  stayed-image : (t : ℕ) → Fine (s .ses) (stayed t) → tailed t ((stayed t) .reply) ≡ image (stayed t)
+  stayed-image : (t : ℕ) → Fine (s .ses) (stayed s t) → tailed t ((stayed s t) .reply) ≡ image (stayed s t)
   unfolding replyNumber
-  stayed-image t f = rw (stored-tail (s .ses) t, heard-told blank (omega arith) (s .rx) (s .msg) ((stayed t) .reply) (f .reply))
+  stayed-image t f = rw (stored-tail (s .ses) t, heard-told blank (omega arith) (s .rx) (s .msg) ((stayed s t) .reply) (f .reply))
 
   pub read-image : (lent : List ℕ) (k : ℕ) → Fine (s .ses) (reportRead s (length lent) k)
       → exported .onRead rec (s .rx) (s .msg) lent k ≡ image (reportRead s (length lent) k)
@@ -137,7 +140,7 @@ module _ (s : St) (x : Inv s) where
   read-image lent k f =
       ap stepOf (loads _)
       ∙ pick-cases (λ y. stepOf y ≡ image o) (stays s (length lent) k)
-      (λ e. let r = stays-read (length lent) k e in
+      (λ e. let r = stays-read s (length lent) k e in
       subst (λ (y : Out). tailed t (y .reply) ≡ image y) (sym r) (stayed-image t (subst (Fine (s .ses)) r f)))
       (λ e. back-image o f)
     where

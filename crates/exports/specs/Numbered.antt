@@ -1,18 +1,14 @@
--- Numbers that cross, and what they stand for; what the exported functions' own steps come to.
+-- Numbers that cross, and what they stand for.
 -- Assumes nothing.
-use Prim.Native.Nat.{ℕ, _+_}
-use mathlib.Core.Bool.{_&&_}
+use Prim.Native.Nat.{ℕ}
 use mathlib.Core.List.{List}
 use mathlib.Core.Option.{Option, none, some}
 use lib.Dec.{eqb}
 use Rattle.protocol.specs.Bytes.{pick}
-use Rattle.boundary.specs.Crossing.{OpenCrossed, staysAt}
-use Rattle.record.specs.Record.{loaded}
+use Rattle.boundary.specs.Crossing.{OpenCrossed}
 use Rattle.request.specs.declared.Request.{Request}
-use Rattle.session.specs.Reports.{reportRefusal}
 use Rattle.session.specs.declared.Fault.{Fault}
 use Rattle.session.specs.declared.Fault.the-variants as F
-use Rattle.session.specs.declared.Session.{Session}
 use Rattle.exports.specs.declared.Asked.{Asked}
 use Rattle.exports.specs.declared.Asked.the-variants as A
 

@@ -1,26 +1,22 @@
 // The exported functions: a session in a lent record, both buffers, what is lent, and a slice for the reply.
-ghost use mathlib.Core.Bool.{_&&_};
 ghost use mathlib.Core.List.{List};
 ghost use mathlib.Core.Path.{_≡_};
-ghost use Prim.Native.Nat.{ℕ, _+_, _-_, _<_};
-ghost use lib.Dec.{eqb, ltb, leb};
+ghost use Prim.Native.Nat.{ℕ};
 ghost use lib.ListN.{length};
 ghost use Rattle.boundary.specs.Crossing.{crossed, isRefusal, back, requestNumbered, callNumbered, stepNumbered, unknownCall, crossOpen, crossStart, crossRead, crossWrote, crossFault};
-ghost use Rattle.record.specs.Fields.{known, sessionOf};
-ghost use Rattle.record.specs.Record.{size, wordOf, loaded};
-ghost use Rattle.session.specs.Calls.{misfit};
+ghost use Rattle.record.specs.Record.{size};
 ghost use Rattle.session.specs.State as S;
-ghost use Rattle.exports.specs.Numbered.{asked, faultNumbered, openCrossed, shortIn};
+ghost use Rattle.exports.specs.Numbered.{asked, faultNumbered, openCrossed};
+use calls::Opened;
 use calls::call_refusal;
 use calls::next_entry;
 use calls::open;
-use calls::Opened;
 use calls::recv_next;
 use calls::start;
 use format_flags::FileMode;
 use format_flags::SyncFlags;
-use record_load::load;
 use record_load::Loaded;
+use record_load::load;
 use record_store::store;
 use record_store::store_tail;
 use reply::tell;
@@ -147,7 +143,15 @@ fn step(s: Session, rx: &mut [u8], msg: &mut [u8], call: u32, lent: &[u8]) -> St
     s.refusing(Answer::Refused(5))
 }
 
-fn begin(s: Session, rx: &mut [u8], msg: &mut [u8], call: u32, a: u32, b: u32, lent: &[u8]) -> Stepped
+fn begin(
+    s: Session,
+    rx: &mut [u8],
+    msg: &mut [u8],
+    call: u32,
+    a: u32,
+    b: u32,
+    lent: &[u8],
+) -> Stepped
     ensures { λ r. ⌜ S.out r (now (rx .exit)) (now (msg .exit)) ≡ callNumbered call a b (S.st s (now (rx .entry)) (now (msg .entry))) (now (lent .entry)) (requestNumbered call a b) (unknownCall (S.st s (now (rx .entry)) (now (msg .entry)))) ⌝ }
 {
     let asked = request(call, a, b);

@@ -1,4 +1,4 @@
--- A read that leaves its need short: when it is one, by the record's numbers, and what it answers. Assumes nothing.
+-- A read that leaves its need short: when it is one, by the record's numbers. Assumes nothing.
 use mathlib.Core.Bool.{Bool, true, false, _&&_, and-eq-true-iff, true≢false}
 use mathlib.Core.List.{List, [], _∷_, _++_, map}
 use mathlib.Core.Path.{_≡_, refl, sym, ap, subst, _∙_}

@@ -1,7 +1,7 @@
 -- A read that leaves its need short: where tail comes to.
 -- Assumes nothing.
 use Prim.Native.Nat.{ℕ, _+_, _-_}
-use mathlib.Core.Bool.{_&&_}
+use mathlib.Core.Bool.{Bool, _&&_}
 use mathlib.Core.Option.{Option, none, some}
 use lib.Dec.{eqb, ltb, leb}
 use Rattle.protocol.specs.Bytes.{pick}
@@ -13,10 +13,14 @@ use Rattle.session.specs.declared.Session.{Session}
 abbrev pub tailAt : (capacity tail until n : ℕ) → ℕ
 tailAt capacity tail until n = pick (ltb 0 n && leb n (capacity - tail) && ltb (tail + n) until && ltb (tail + n) capacity) (tail + n) 0
 
--- for a read of k bytes that leaves its need short; 0 for any other
-abbrev pub shortTail : Session → (rx msg lent k : ℕ) → ℕ
-shortTail s rx msg lent k = pick (eqb (reportRefusal s rx msg lent) 0 && staysAt (s .pending) s k) (s .buf .tail + k) 0
+-- whether a read of k bytes leaves its need short, with buffers of x and m bytes and n lent
+abbrev pub leavesShort : Session → (x m n k : ℕ) → Bool
+leavesShort s x m n k = eqb (reportRefusal s x m n) 0 && staysAt (s .pending) s k
 
-abbrev pub shortIn : Option Session → (rx msg lent k : ℕ) → ℕ
-shortIn none rx msg lent k = 0
-shortIn (some s) rx msg lent k = shortTail s rx msg lent k
+abbrev pub shortTail : Session → (x m n k : ℕ) → ℕ
+shortTail s x m n k = pick (leavesShort s x m n k) (s .buf .tail + k) 0
+
+-- 0 too where a record holds no session
+abbrev pub shortIn : Option Session → (x m n k : ℕ) → ℕ
+shortIn none x m n k = 0
+shortIn (some s) x m n k = shortTail s x m n k

@@ -14,28 +14,26 @@ numbered : (c : tie.Start) {k : ℕ} → c .args .call ≡ k → requestNumbered
 numbered c e = ap (λ (j : ℕ). requestNumbered j (c .args .a) (c .args .b)) (sym e)
 
 -- none of 1 to 11
+beyond : (n a b : ℕ) → (1 ≤ n → 12 ≤ n) → none ≡ requestNumbered n a b
+beyond zero a b h = refl
+beyond (suc n) a b h = let l : 12 ≤ suc n = h (omega arith) in rw List·getD-eq-default
+
 last : tie.Need-returns-12
-last c =
-    let a = c .before .args in
-    go (a .call) (past (a .call) (Unit {0}) 1 11 (c .match .rest) .1)
-    where
-      go : (n : ℕ) → (1 ≤ n → 12 ≤ n) → none ≡ requestNumbered n (c .before .args .a) (c .before .args .b)
-      go zero h = refl
-      go (suc n) h = sym (List·getD-eq-default _ none (h (omega arith)))
+last c = let a = c .before .args in beyond (a .call) (a .a) (a .b) (past (a .call) (Unit {0}) 1 11 (c .match .rest) .1)
 
 pub request-spec : {M : Type 1} → statement M
 request-spec =
     tie.close
     (tie.spec
-    (λ c. numbered c (c .match .keys1))
-    (λ c. numbered c (c .match .keys2))
-    (λ c. numbered c (c .match .keys3))
-    (λ c. numbered c (c .match .keys4))
-    (λ c. numbered c (c .match .keys5))
-    (λ c. numbered c (c .match .keys6))
-    (λ c. numbered c (c .match .keys7))
-    (λ c. numbered c (c .match .keys8))
-    (λ c. numbered c (c .match .keys9))
-    (λ c. numbered c (c .match .keys10))
-    (λ c. numbered c (c .match .keys11))
+    (λ c. numbered (c .before) (c .match .keys1))
+    (λ c. numbered (c .before) (c .match .keys2))
+    (λ c. numbered (c .before) (c .match .keys3))
+    (λ c. numbered (c .before) (c .match .keys4))
+    (λ c. numbered (c .before) (c .match .keys5))
+    (λ c. numbered (c .before) (c .match .keys6))
+    (λ c. numbered (c .before) (c .match .keys7))
+    (λ c. numbered (c .before) (c .match .keys8))
+    (λ c. numbered (c .before) (c .match .keys9))
+    (λ c. numbered (c .before) (c .match .keys10))
+    (λ c. numbered (c .before) (c .match .keys11))
     last)
