@@ -1,5 +1,6 @@
 """What the prover does not look at: the definitions import no code, no public function has a `requires` or lacks an `ensures`, each
-crate that states something has a must-fail edit, and no file names a path of one machine."""
+crate that states something has a must-fail edit, the wrong programs that docs/PROMISES.md names are there, and no file names a path of
+one machine."""
 import pathlib
 import re
 import subprocess
@@ -53,6 +54,19 @@ def edits():
             faults.append(f'{crate}: states something and has no must-fail edit')
 
 
+def named():
+    """Each `CRATE/NAME, NAME` of the promises is a must-fail edit."""
+    crates = {c.name for c in pathlib.Path('crates').iterdir()}
+    for line in pathlib.Path('docs/PROMISES.md').read_text().split('\n'):
+        for found in re.finditer(r'\b([a-z_]+)/([a-z0-9_]+)((?:(?: \([^)]*\))?, [a-z0-9_]+(?![a-z0-9_]*/))*)', line):
+            crate, names = found.group(1), [found.group(2)] + re.findall(r', ([a-z0-9_]+)', found.group(3))
+            if crate not in crates or names[0] in ('specs', 'proofs', 'src'):
+                continue
+            for name in names:
+                if not pathlib.Path(f'crates/{crate}/must-fail/{name}.edit').is_file():
+                    faults.append(f'docs/PROMISES.md: no wrong program {crate}/{name}')
+
+
 def paths():
     listed = subprocess.run(['git', 'ls-files'], capture_output=True, text=True, check=True).stdout.split('\n')
     pattern = re.compile(r'(?<![\w.-])/(?:work|root|home|farm)/')
@@ -68,6 +82,7 @@ def paths():
 definitions()
 contracts()
 edits()
+named()
 paths()
 for fault in faults:
     print('sources:', fault)
