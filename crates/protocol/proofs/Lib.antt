@@ -9,3 +9,4 @@ pub mod Messages
 pub mod Bodies
 pub mod Requests
 pub mod Trials
+pub mod Refusals

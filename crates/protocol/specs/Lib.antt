@@ -10,3 +10,4 @@ pub mod Answers
 pub mod Calls
 pub mod Reader
 pub mod Trials
+pub mod Refusals
