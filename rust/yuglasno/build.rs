@@ -10,7 +10,10 @@ fn main() {
     };
     let library = folder.join("libexports.a");
     if !library.is_file() {
-        panic!("no {}: run `rt staticlib exports` in the repository, or set YUGLASNO_LIB to the folder that has it", library.display());
+        panic!(
+            "no {}: run `rt staticlib exports` in the repository, or set YUGLASNO_LIB to the folder that has it",
+            library.display()
+        );
     }
     println!("cargo:rerun-if-changed={}", library.display());
     println!("cargo:rustc-link-search=native={}", folder.display());

@@ -1,2 +1,58 @@
-//! A proved file-sync session for ADB's `sync:` service.
+//! The host's side of ADB's `sync:` service, over a proved static library: stat, list, pull and push, v1 and v2.
+//!
+//! The library does no I/O. A [`Session`] starts a [`Call`] and says what it needs next, as a [`Step`]: read into this
+//! window, write this piece, close, or the answer. A program with an event loop of its own takes these steps itself
+//! ([`Session::start`] and [`Session::report`]); any other gives the session a [`Link`], such as anything that is
+//! `Read + Write`, and each call is one line:
+//!
+//! ```
+//! use yuglasno::{panel::Panel, Session, CAPACITY};
+//!
+//! let mut link = Panel::with_jobs(); // a panel in memory; a TcpStream, a UnixStream .. serve as well
+//! let mut session = Session::open(Panel::BANNER, vec![0; CAPACITY], vec![0; CAPACITY]).unwrap();
+//!
+//! let mut job = Vec::new();
+//! let bytes = session.pull(&mut link, "/jobs/1998-toric.job", &mut job).unwrap();
+//! assert_eq!(bytes, job.len() as u64);
+//! session.quit(&mut link).unwrap();
+//! ```
+//!
+//! What is answered is document 01's, by its numbers: see [`Error`]. A chunk, a name and the text of a FAIL are parts of
+//! the session's two buffers, lent until its next call; the session allocates nothing.
+//!
+//! Modules: [`raw`] has the static library's functions, and is the only one with `unsafe`; [`panel`] is a test peer.
+#![deny(unsafe_code)]
+#![deny(missing_docs)]
+
+mod answer;
+mod call;
+mod error;
+mod feature;
+mod link;
+mod numbers;
+mod reply;
+mod runs;
+mod session;
+mod shown;
+mod transfers;
+
+#[cfg(unix)]
+pub mod panel;
+#[allow(unsafe_code)]
+#[rustfmt::skip]
 pub mod raw;
+
+pub use answer::{Answer, Details, Entry, EntryV2, Stat, StatV2};
+pub use call::{Call, Report};
+pub use error::Error;
+pub use feature::Feature;
+pub use link::{code_of, Fault, Link, Pair};
+pub use numbers::{FileMode, SyncFlags};
+pub use session::{Session, Step};
+pub use shown::Shown;
+pub use transfers::Failure;
+
+/// The most bytes in one DATA message.
+pub const DATA_MOST: usize = 65_536;
+/// A receive buffer that takes every DATA message: its header and [`DATA_MOST`] bytes.
+pub const CAPACITY: usize = 8 + DATA_MOST;

@@ -1,0 +1,80 @@
+//! The calls of a session with what each is lent, and what the host reports of a step.
+use crate::numbers::{FileMode, SyncFlags};
+
+/// A call, with the path or data that it lends to the session until it is answered.
+#[derive(Clone, Copy, PartialEq, Eq, Debug)]
+pub enum Call<'l> {
+    /// A file's mode, size and time.
+    Stat(&'l [u8]),
+    /// Likewise, all that the panel knows of a file.
+    StatV2(&'l [u8]),
+    /// Starts a listing; [`Call::NextEntry`] gives its entries.
+    List(&'l [u8]),
+    /// Starts a v2 listing; [`Call::NextEntryV2`] gives its entries.
+    ListV2(&'l [u8]),
+    /// Starts a pull; [`Call::RecvNext`] gives its chunks.
+    Recv(&'l [u8]),
+    /// Starts a v2 pull.
+    RecvV2(&'l [u8], SyncFlags),
+    /// Starts a push; data and [`Call::SendDone`] follow.
+    Send(&'l [u8], FileMode),
+    /// Starts a v2 push.
+    SendV2(&'l [u8], FileMode, SyncFlags),
+    /// Data of a push, of any length.
+    Data(&'l [u8]),
+    /// Ends a push, with the file's time in Unix seconds.
+    SendDone(u32),
+    /// Ends the session and closes the channel.
+    Quit,
+    /// The next entry of a listing.
+    NextEntry,
+    /// The next entry of a v2 listing.
+    NextEntryV2,
+    /// The next chunk of a pull.
+    RecvNext,
+}
+
+impl<'l> Call<'l> {
+    /// The path or data of the call; empty where it has none.
+    pub fn lent(&self) -> &'l [u8] {
+        match *self {
+            Self::Stat(path) | Self::StatV2(path) | Self::List(path) | Self::ListV2(path) => path,
+            Self::Recv(path) | Self::RecvV2(path, _) | Self::Send(path, _) | Self::SendV2(path, _, _) => path,
+            Self::Data(data) => data,
+            Self::SendDone(_) | Self::Quit | Self::NextEntry | Self::NextEntryV2 | Self::RecvNext => &[],
+        }
+    }
+
+    /// The library's number of the call, its mode or time, its flags.
+    pub(crate) fn numbers(&self) -> (u32, u32, u32) {
+        match *self {
+            Self::Stat(_) => (1, 0, 0),
+            Self::StatV2(_) => (2, 0, 0),
+            Self::List(_) => (3, 0, 0),
+            Self::ListV2(_) => (4, 0, 0),
+            Self::Recv(_) => (5, 0, 0),
+            Self::RecvV2(_, flags) => (6, 0, flags.0),
+            Self::Send(_, mode) => (7, mode.0, 0),
+            Self::SendV2(_, mode, flags) => (8, mode.0, flags.0),
+            Self::Data(_) => (9, 0, 0),
+            Self::SendDone(time) => (10, time, 0),
+            Self::Quit => (11, 0, 0),
+            Self::NextEntry => (12, 0, 0),
+            Self::NextEntryV2 => (13, 0, 0),
+            Self::RecvNext => (14, 0, 0),
+        }
+    }
+}
+
+/// What became of the step that the session asked for.
+#[derive(Clone, Copy, PartialEq, Eq, Debug)]
+pub enum Report {
+    /// So many bytes were read to the front of the window.
+    Read(usize),
+    /// The piece was written whole, or the channel is closed as asked.
+    Done,
+    /// The channel was found closed.
+    Closed,
+    /// Another fault, by a code of the host's own.
+    Error(u32),
+}

@@ -1,0 +1,200 @@
+//! The answers of a call that did not go through, by document 01's numbers.
+use crate::feature::Feature;
+use crate::raw::REPLY;
+use crate::reply::word;
+use crate::shown::Shown;
+use std::borrow::Cow;
+use std::{fmt, io};
+
+/// Why a call did not go through. [`Error::number`] is document 01's number, and the text begins with it.
+///
+/// 1 to 11 are the caller's: session and buffers are as before. 12 and 13 are the link's, 14 to 17 the panel's.
+/// The text of a FAIL is a part of the message buffer, lent until the session's next call; [`Error::into_owned`]
+/// copies it out.
+///
+/// ```
+/// use yuglasno::{panel::Panel, Error, Session};
+///
+/// let mut link = Panel::with_jobs();
+/// let mut session = Session::open(b"", [0; 64], [0; 64]).unwrap();
+/// let error = session.stat_v2(&mut link, "/jobs").unwrap_err();
+/// assert_eq!(error.number(), 10);
+/// assert_eq!(error.to_string(), "10: the panel lacks stat_v2 (feature 1)");
+/// ```
+#[derive(Debug)]
+#[non_exhaustive]
+pub enum Error<'a> {
+    /// 1: the receive buffer is under 8 bytes.
+    SmallBuffer,
+    /// 2: the message buffer is shorter than the receive buffer.
+    ShortMessageBuffer,
+    /// 3: a buffer, or the path or data of a pending call, has another length than before.
+    OtherLength,
+    /// 4: a call while one is pending.
+    Pending,
+    /// 5: a report that is not awaited.
+    NotAwaited,
+    /// 6: a call after quit.
+    Ended,
+    /// 7: a path over 65,536 bytes.
+    LongPath,
+    /// 8: a NUL in the path.
+    NulInPath,
+    /// 9: flags that no transfer of this kind takes.
+    Flags,
+    /// 10: the panel's banner lacks this feature.
+    Missing(Feature),
+    /// 11: a read of no bytes, or of more than the window; the session still waits.
+    Count,
+    /// 12: the channel is closed.
+    Closed,
+    /// 13: another fault of the link.
+    Io {
+        /// The code that was reported: see [`code_of`](crate::code_of).
+        code: u32,
+        /// The fault itself, where the session drove the link.
+        error: Option<io::Error>,
+    },
+    /// 14: the panel's FAIL, with its text.
+    Fail(Cow<'a, [u8]>),
+    /// 15: a reply under an id that does not belong there, with its four bytes.
+    Unexpected([u8; 4]),
+    /// 16: the panel's errno in a v2 stat.
+    Errno(u32),
+    /// 17: a reply that the receive buffer can't hold.
+    TooLarge,
+    /// Another number.
+    Other(u32),
+}
+
+impl<'a> Error<'a> {
+    /// Document 01's number.
+    pub fn number(&self) -> u32 {
+        match self {
+            Self::SmallBuffer => 1,
+            Self::ShortMessageBuffer => 2,
+            Self::OtherLength => 3,
+            Self::Pending => 4,
+            Self::NotAwaited => 5,
+            Self::Ended => 6,
+            Self::LongPath => 7,
+            Self::NulInPath => 8,
+            Self::Flags => 9,
+            Self::Missing(_) => 10,
+            Self::Count => 11,
+            Self::Closed => 12,
+            Self::Io { .. } => 13,
+            Self::Fail(_) => 14,
+            Self::Unexpected(_) => 15,
+            Self::Errno(_) => 16,
+            Self::TooLarge => 17,
+            Self::Other(number) => *number,
+        }
+    }
+
+    /// The same error, with a FAIL's text copied out of the session's buffer.
+    pub fn into_owned(self) -> Error<'static> {
+        match self {
+            Self::Fail(text) => Error::Fail(Cow::Owned(text.into_owned())),
+            Self::SmallBuffer => Error::SmallBuffer,
+            Self::ShortMessageBuffer => Error::ShortMessageBuffer,
+            Self::OtherLength => Error::OtherLength,
+            Self::Pending => Error::Pending,
+            Self::NotAwaited => Error::NotAwaited,
+            Self::Ended => Error::Ended,
+            Self::LongPath => Error::LongPath,
+            Self::NulInPath => Error::NulInPath,
+            Self::Flags => Error::Flags,
+            Self::Missing(feature) => Error::Missing(feature),
+            Self::Count => Error::Count,
+            Self::Closed => Error::Closed,
+            Self::Io { code, error } => Error::Io { code, error },
+            Self::Unexpected(id) => Error::Unexpected(id),
+            Self::Errno(errno) => Error::Errno(errno),
+            Self::TooLarge => Error::TooLarge,
+            Self::Other(number) => Error::Other(number),
+        }
+    }
+
+    /// The error of a number alone.
+    pub(crate) fn plain(number: u32) -> Error<'static> {
+        match number {
+            1 => Error::SmallBuffer,
+            2 => Error::ShortMessageBuffer,
+            3 => Error::OtherLength,
+            4 => Error::Pending,
+            5 => Error::NotAwaited,
+            6 => Error::Ended,
+            7 => Error::LongPath,
+            8 => Error::NulInPath,
+            9 => Error::Flags,
+            11 => Error::Count,
+            12 => Error::Closed,
+            17 => Error::TooLarge,
+            _ => Error::Other(number),
+        }
+    }
+
+    /// The error of a reply. `text` is the reply's part of the message buffer, `fault` what the link came to.
+    pub(crate) fn told(number: u32, out: &[u8; REPLY], text: &'a [u8], fault: Option<io::Error>) -> Self {
+        match number {
+            10 => Feature::numbered(word(out, 3)).map_or(Self::Other(10), Self::Missing),
+            13 => Self::Io { code: word(out, 3) as u32, error: fault },
+            14 => Self::Fail(Cow::Borrowed(text)),
+            15 => Self::Unexpected((word(out, 3) as u32).to_le_bytes()),
+            16 => Self::Errno(word(out, 3) as u32),
+            _ => Self::plain(number),
+        }
+    }
+}
+
+impl fmt::Display for Error<'_> {
+    fn fmt(&self, f: &mut fmt::Formatter<'_>) -> fmt::Result {
+        write!(f, "{}: ", self.number())?;
+        match self {
+            Self::SmallBuffer => f.write_str("the receive buffer is under 8 bytes"),
+            Self::ShortMessageBuffer => f.write_str("the message buffer is shorter than the receive buffer"),
+            Self::OtherLength => f.write_str("a buffer, path or data has another length than before"),
+            Self::Pending => f.write_str("another call is pending"),
+            Self::NotAwaited => f.write_str("the report is not awaited"),
+            Self::Ended => f.write_str("the session has ended"),
+            Self::LongPath => f.write_str("the path is over 65,536 bytes"),
+            Self::NulInPath => f.write_str("the path has a NUL"),
+            Self::Flags => f.write_str("the transfer takes no such flags"),
+            Self::Missing(feature) => write!(f, "the panel lacks {feature} (feature {})", feature.number()),
+            Self::Count => f.write_str("a read of no bytes, or of more than was asked for"),
+            Self::Closed => f.write_str("the channel is closed"),
+            Self::Io { code, error: Some(error) } => write!(f, "the link failed: {error} (code {code})"),
+            Self::Io { code, error: None } => write!(f, "the link failed (code {code})"),
+            Self::Fail(text) => write!(f, "the panel failed: {}", Shown(text)),
+            Self::Unexpected(id) => write!(f, "the panel sent an unexpected id: {}", Shown(id)),
+            Self::Errno(errno) => write!(f, "the panel reports errno {errno}{}", meaning(*errno)),
+            Self::TooLarge => f.write_str("the reply is too large for the receive buffer"),
+            Self::Other(_) => f.write_str("not a number that this program knows"),
+        }
+    }
+}
+
+impl std::error::Error for Error<'_> {
+    fn source(&self) -> Option<&(dyn std::error::Error + 'static)> {
+        match self {
+            Self::Io { error: Some(error), .. } => Some(error),
+            _ => None,
+        }
+    }
+}
+
+/// The panel's errnos that a stat commonly meets, by Linux's numbers.
+fn meaning(errno: u32) -> &'static str {
+    match errno {
+        1 => ": not permitted",
+        2 => ": no such file or folder",
+        5 => ": input or output error",
+        13 => ": permission denied",
+        20 => ": not a folder",
+        22 => ": invalid argument",
+        36 => ": name too long",
+        40 => ": too many symbolic links",
+        _ => "",
+    }
+}

@@ -1,0 +1,166 @@
+//! The session: its record and its two buffers, and the steps of a call without any I/O.
+use crate::answer::{answer, Answer};
+use crate::call::{Call, Report};
+use crate::error::Error;
+use crate::raw::{self, RECORD, REPLY};
+use crate::reply::{heard, part, Ask, Reply};
+use std::{fmt, io};
+
+/// A session, over a receive buffer `R` and a message buffer `M` that it owns (`Vec<u8>`, `[u8; N]`) or borrows
+/// (`&mut [u8]`).
+///
+/// The receive buffer has room for the largest reply ([`CAPACITY`](crate::CAPACITY) for pulls; a listing's name, 16 or 72
+/// bytes for a stat); a reply that it can't hold is answered 17. The message buffer takes the text of a FAIL and is at
+/// least as long. Either one must give the same slice each time it is asked.
+pub struct Session<R, M = R> {
+    record: [u8; RECORD],
+    reply: [u8; REPLY],
+    asked: Option<Ask>,
+    rx: R,
+    msg: M,
+}
+
+/// What a session needs next, or what it answers.
+#[derive(Debug)]
+pub enum Step<'a> {
+    /// Read into this window, as little as one byte: [`Report::Read`]. Past the count, its bytes may be anything.
+    Read(&'a mut [u8]),
+    /// Write this piece whole: [`Report::Done`].
+    Write(&'a [u8]),
+    /// Close the channel: [`Report::Done`].
+    Close,
+    /// The call is answered.
+    Told(Result<Answer<'a>, Error<'a>>),
+}
+
+impl<R: AsMut<[u8]>, M: AsMut<[u8]>> Session<R, M> {
+    /// Opens a session for a panel with this banner, of which only `features=..` counts. The channel is the caller's to
+    /// open. 1 or 2 for buffers that are too short.
+    ///
+    /// ```
+    /// use yuglasno::Session;
+    /// let mut borrowed = vec![0; 4096];
+    /// assert!(Session::open(b"features=stat_v2", &mut borrowed[..], [0; 4096]).is_ok());
+    /// assert_eq!(Session::open(b"", [0; 7], [0; 7]).unwrap_err().number(), 1);
+    /// ```
+    pub fn open(banner: &[u8], mut rx: R, mut msg: M) -> Result<Self, Error<'static>> {
+        let mut record = [0; RECORD];
+        match raw::open(&mut record, banner, rx.as_mut().len(), msg.as_mut().len()) {
+            0 => Ok(Self { record, reply: [0; REPLY], asked: None, rx, msg }),
+            number => Err(Error::plain(number)),
+        }
+    }
+
+    /// The two buffers back. What a pending call held is lost.
+    pub fn into_buffers(self) -> (R, M) {
+        (self.rx, self.msg)
+    }
+
+    /// Starts a call and takes its first step. A refused call (3 to 10) changes nothing.
+    ///
+    /// ```
+    /// use yuglasno::{Answer, Call, Report, Session, Step};
+    ///
+    /// let mut session = Session::open(b"", [0; 64], [0; 64]).unwrap();
+    /// let call = Call::Stat(b"/a");
+    /// let Step::Write(piece) = session.start(&call) else { panic!() };
+    /// assert_eq!(piece, b"STAT\x02\0\0\0/a");
+    /// let Step::Read(window) = session.report(&call, Report::Done) else { panic!() };
+    /// window[..16].copy_from_slice(b"STAT\xA4\x81\0\0\xCE\x07\0\0\x05\0\0\0");
+    /// let Step::Told(Ok(Answer::Stat(stat))) = session.report(&call, Report::Read(16)) else { panic!() };
+    /// assert_eq!((stat.mode.to_string(), stat.size, stat.mtime), ("100644".to_string(), 1998, 5));
+    /// ```
+    pub fn start<'a>(&'a mut self, call: &Call<'a>) -> Step<'a> {
+        let reply = self.begin(call);
+        self.step(call, reply)
+    }
+
+    /// Reports what became of the last step, and takes the next one. `call` is the pending one, with the same path or
+    /// data. A refused report (3, 5, 6 or 11) changes nothing: the session still waits.
+    pub fn report<'a>(&'a mut self, call: &Call<'a>, report: Report) -> Step<'a> {
+        let reply = self.tell(call, report);
+        self.step(call, reply)
+    }
+
+    /// What a pending call waits for, once more; `None` where none is pending.
+    pub fn asked<'a>(&'a mut self, call: &Call<'a>) -> Option<Step<'a>> {
+        let ask = self.asked?;
+        Some(self.step(call, Reply::Ask(ask)))
+    }
+
+    /// What the pending call waits for, its parts unborrowed.
+    pub(crate) fn waits_for(&self) -> Option<Ask> {
+        self.asked
+    }
+
+    pub(crate) fn begin(&mut self, call: &Call<'_>) -> Reply {
+        let (number, a, b) = call.numbers();
+        let (rx, msg) = (self.rx.as_mut(), self.msg.as_mut());
+        let told = raw::start(&mut self.record, rx, msg, call.lent(), number, a, b, &mut self.reply);
+        self.noted(told)
+    }
+
+    pub(crate) fn tell(&mut self, call: &Call<'_>, report: Report) -> Reply {
+        let (rec, rx, msg, lent, out) =
+            (&mut self.record, self.rx.as_mut(), self.msg.as_mut(), call.lent(), &mut self.reply);
+        let told = match report {
+            Report::Read(count) => raw::read(rec, rx, msg, lent, count, out),
+            Report::Done => raw::wrote(rec, rx, msg, lent, out),
+            Report::Closed => raw::fault(rec, rx, msg, lent, 0, 0, out),
+            Report::Error(code) => raw::fault(rec, rx, msg, lent, 1, code, out),
+        };
+        self.noted(told)
+    }
+
+    /// Reads a reply, and keeps what is asked. A refusal leaves that as it was.
+    fn noted(&mut self, told: u32) -> Reply {
+        let reply = heard(told, &self.reply);
+        match reply {
+            Reply::Ask(ask) => self.asked = Some(ask),
+            Reply::Told(1..=11) => {}
+            Reply::Told(_) => self.asked = None,
+        }
+        reply
+    }
+
+    fn step<'a>(&'a mut self, call: &Call<'a>, reply: Reply) -> Step<'a> {
+        match reply {
+            Reply::Told(number) => Step::Told(self.answered(number, None)),
+            Reply::Ask(Ask::Read(part)) => Step::Read(self.window(part.range())),
+            Reply::Ask(Ask::Close) => Step::Close,
+            Reply::Ask(ask) => {
+                self.asked = Some(ask);
+                Step::Write(self.piece(call))
+            }
+        }
+    }
+
+    pub(crate) fn window(&mut self, range: std::ops::Range<usize>) -> &mut [u8] {
+        &mut self.rx.as_mut()[range]
+    }
+
+    /// The piece that is asked to be written; empty where none is.
+    pub(crate) fn piece<'a>(&'a mut self, call: &Call<'a>) -> &'a [u8] {
+        match &self.asked {
+            Some(Ask::WriteRx(part)) => &self.rx.as_mut()[part.range()],
+            Some(Ask::WriteLent(part)) => &call.lent()[part.range()],
+            Some(Ask::WriteBytes(bytes)) => bytes.as_slice(),
+            _ => &[],
+        }
+    }
+
+    /// The answer of this number that the last reply carries.
+    pub(crate) fn answered(&mut self, number: u32, fault: Option<io::Error>) -> Result<Answer<'_>, Error<'_>> {
+        match number {
+            0 => Ok(answer(&self.reply, &self.rx.as_mut()[part(&self.reply, 1).range()])),
+            14 => Err(Error::told(number, &self.reply, &self.msg.as_mut()[part(&self.reply, 1).range()], fault)),
+            _ => Err(Error::told(number, &self.reply, &[], fault)),
+        }
+    }
+}
+
+impl<R, M> fmt::Debug for Session<R, M> {
+    fn fmt(&self, f: &mut fmt::Formatter<'_>) -> fmt::Result {
+        f.debug_struct("Session").field("asked", &self.asked).finish_non_exhaustive()
+    }
+}
