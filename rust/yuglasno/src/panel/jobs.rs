@@ -23,7 +23,7 @@ impl Jobs {
         };
         put(b"1998-toric.job", 892_000_000, toric(200));
         put(b"empty.job", 900_000_000, Vec::new());
-        put(b"sphere.job", 1_000_000_000, surface("SPHERE", 128, |x, y| (x * x + y * y) / 1_060));
+        put(b"sphere.job", 1_000_000_000, surface("SPHERE", 128, |x, y| (x * x + y * y) / 1_060_000));
         put(b"odd\tname\xFF.job", 1_500_000_000, b"ODD NAME\n".to_vec());
         put("глянец.job".as_bytes(), 1_700_000_000, b"SPH -2.25\n".to_vec());
         jobs
@@ -37,7 +37,7 @@ impl Jobs {
 
 /// A toric surface: two curvatures, across and along.
 fn toric(side: i64) -> Vec<u8> {
-    surface("TORIC 1998", side, |x, y| x * x / 1_060 + y * y / 940)
+    surface("TORIC 1998", side, |x, y| x * x / 1_060_000 + y * y / 940_000)
 }
 
 /// A line that names the surface, then its heights in micrometres, a row after the other.
