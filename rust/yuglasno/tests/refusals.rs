@@ -1,0 +1,133 @@
+//! The answers 1 to 11: nothing is written, and the session goes on as if they had not been asked.
+mod common;
+use common::*;
+use yuglasno::{Answer, Call, Error, Fault, Feature, FileMode, Link, Report, Session, Step, SyncFlags};
+
+fn number(step: Step) -> u32 {
+    match step {
+        Step::Told(Err(error)) => error.number(),
+        other => panic!("{other:?}"),
+    }
+}
+
+#[test]
+fn opening() {
+    assert_eq!(Session::open(b"", [0; 7], [0; 7]).unwrap_err().number(), 1);
+    assert_eq!(Session::open(b"", [0; 7], [0; 6]).unwrap_err().number(), 1);
+    assert_eq!(Session::open(b"", [0; 8], [0; 7]).unwrap_err().number(), 2);
+    assert!(Session::open(b"", [0; 8], [0; 8]).is_ok());
+}
+
+#[test]
+fn another_length() {
+    let mut buffer = vec![0; 8];
+    let mut session = Session::open(b"", &mut buffer, [0; 16]).unwrap();
+    let call = Call::Stat(b"/a");
+    assert!(matches!(session.start(&call), Step::Write(b"STAT\x02\0\0\0")));
+    assert_eq!(number(session.report(&Call::Stat(b"/ab"), Report::Done)), 3);
+    assert!(matches!(session.asked(&call), Some(Step::Write(b"STAT\x02\0\0\0"))));
+    assert!(matches!(session.report(&call, Report::Done), Step::Write(b"/a")));
+}
+
+#[test]
+fn pending_and_reports_out_of_turn() {
+    let mut session = Session::open(b"", [0; 16], [0; 16]).unwrap();
+    let call = Call::Stat(b"/a");
+    assert_eq!(number(session.report(&call, Report::Done)), 5);
+    assert!(session.asked(&call).is_none());
+    assert!(matches!(session.start(&call), Step::Write(_)));
+    assert_eq!(number(session.start(&Call::Quit)), 4);
+    assert_eq!(number(session.report(&call, Report::Read(1))), 5);
+    assert!(matches!(session.asked(&call), Some(Step::Write(b"STAT\x02\0\0\0/a"))));
+    assert!(matches!(session.report(&call, Report::Done), Step::Read(_)));
+    assert_eq!(number(session.report(&call, Report::Done)), 5);
+    assert_eq!(number(session.report(&call, Report::Read(0))), 11);
+    assert_eq!(number(session.report(&call, Report::Read(17))), 11);
+    let Some(Step::Read(window)) = session.asked(&call) else { panic!() };
+    assert_eq!(window.len(), 16);
+    window.copy_from_slice(&stat());
+    assert!(matches!(session.report(&call, Report::Read(16)), Step::Told(Ok(Answer::Stat(_)))));
+}
+
+#[test]
+fn ended() {
+    let mut link = Script::new(b"", 1, End::Closed);
+    let mut session = Session::open(b"", [0; 16], [0; 16]).unwrap();
+    session.quit(&mut link).unwrap();
+    assert_eq!((link.written(), link.closes), (b"QUIT\0\0\0\0".to_vec(), 1));
+    assert_eq!(session.quit(&mut link).unwrap_err().number(), 6);
+    assert_eq!(session.stat(&mut link, "/\0").unwrap_err().number(), 6);
+    assert_eq!(number(session.report(&Call::Quit, Report::Done)), 6);
+    assert_eq!(link.closes, 1);
+}
+
+#[test]
+fn paths_flags_and_features() {
+    const V2: &[u8] = b"features=sendrecv_v2,sendrecv_v2_lz4";
+    const ODD: SyncFlags = SyncFlags(8);
+    let long = vec![b'p'; 65_537];
+    let long_with_nul = [&long[..], &[0]].concat();
+    let mode = FileMode(0);
+    let cases: [(&[u8], Call, Error); 17] = [
+        (b"", Call::Stat(&long), Error::LongPath),
+        (b"", Call::RecvV2(&long_with_nul, SyncFlags(3)), Error::LongPath),
+        (b"", Call::List(b"/a\0b"), Error::NulInPath),
+        (b"", Call::ListV2(b"\0"), Error::NulInPath),
+        (b"", Call::Send(b"\0", mode), Error::NulInPath),
+        (b"", Call::SendV2(b"\0", mode, SyncFlags(3)), Error::NulInPath),
+        (b"", Call::RecvV2(b"/a", SyncFlags(3)), Error::Flags),
+        (V2, Call::RecvV2(b"/a", SyncFlags::DRY_RUN), Error::Flags),
+        (V2, Call::SendV2(b"/a", mode, ODD), Error::Flags),
+        (b"", Call::SendV2(b"/a", mode, ODD), Error::Flags),
+        (b"", Call::StatV2(b"/a"), Error::Missing(Feature::StatV2)),
+        (b"", Call::ListV2(b"/a"), Error::Missing(Feature::LsV2)),
+        (b"", Call::RecvV2(b"/a", SyncFlags::LZ4), Error::Missing(Feature::SendrecvV2)),
+        (b"features=a;features=sendrecv_v2", Call::RecvV2(b"", SyncFlags::NONE), Error::Missing(Feature::SendrecvV2)),
+        (V2, Call::RecvV2(b"/a", SyncFlags::BROTLI), Error::Missing(Feature::Brotli)),
+        (V2, Call::RecvV2(b"/a", SyncFlags::ZSTD), Error::Missing(Feature::Zstd)),
+        (V2, Call::SendV2(b"/a", mode, SyncFlags::LZ4 | SyncFlags::DRY_RUN), Error::Missing(Feature::DryRunSend)),
+    ];
+    for (banner, call, expected) in cases {
+        let mut link = Script::new(&stat(), 1, End::Closed);
+        let mut session = Session::open(banner, [0; 40], [0; 40]).unwrap();
+        let told = session.call(&mut link, &call).unwrap_err().to_string();
+        assert_eq!(told, expected.to_string());
+        assert!(link.pieces.is_empty(), "{told}");
+        assert!(session.stat(&mut link, "/a").is_ok(), "the session goes on after {told}");
+    }
+}
+
+#[test]
+fn a_path_of_65536_bytes_is_taken() {
+    let path = vec![b'p'; 65_536];
+    let mut link = Script::new(&stat(), 1, End::Closed);
+    Session::open(b"", [0; 40], [0; 40]).unwrap().stat(&mut link, &path).unwrap();
+    assert_eq!(link.written(), with(b"STAT", &path));
+}
+
+/// A link that says it read more than it was asked for.
+struct Liar(Script);
+
+impl Link for Liar {
+    fn read(&mut self, window: &mut [u8]) -> Result<usize, Fault> {
+        Ok(window.len() + 1)
+    }
+    fn write(&mut self, piece: &[u8]) -> Result<(), Fault> {
+        self.0.write(piece)
+    }
+    fn close(&mut self) -> Result<(), Fault> {
+        self.0.close()
+    }
+}
+
+#[test]
+fn a_call_is_resumed_after_a_wrong_count() {
+    let call = Call::Stat(b"/a");
+    let mut liar = Liar(Script::new(&stat(), 5, End::Closed));
+    let mut session = Session::open(b"", [0; 40], [0; 40]).unwrap();
+    assert_eq!(session.resume(&mut liar, &call).unwrap_err().number(), 5);
+    assert_eq!(session.call(&mut liar, &call).unwrap_err().number(), 11);
+    assert_eq!(session.quit(&mut liar.0).unwrap_err().number(), 4);
+    assert!(matches!(session.resume(&mut liar.0, &call), Ok(Answer::Stat(_))));
+    assert_eq!(liar.0.pieces.len(), 1);
+}
