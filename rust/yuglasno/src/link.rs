@@ -17,19 +17,19 @@ pub enum Fault {
 /// stream closes when it is dropped.
 pub trait Link {
     /// Reads from one byte to the whole window, to its front.
-    fn read(&mut self, window: &mut [u8]) -> Result<usize, Fault>;
+    fn read_window(&mut self, window: &mut [u8]) -> Result<usize, Fault>;
     /// Writes the piece whole.
-    fn write(&mut self, piece: &[u8]) -> Result<(), Fault>;
+    fn write_piece(&mut self, piece: &[u8]) -> Result<(), Fault>;
     /// Closes the channel.
     fn close(&mut self) -> Result<(), Fault>;
 }
 
 impl<T: Read + Write + ?Sized> Link for T {
-    fn read(&mut self, window: &mut [u8]) -> Result<usize, Fault> {
+    fn read_window(&mut self, window: &mut [u8]) -> Result<usize, Fault> {
         read_from(self, window)
     }
 
-    fn write(&mut self, piece: &[u8]) -> Result<(), Fault> {
+    fn write_piece(&mut self, piece: &[u8]) -> Result<(), Fault> {
         write_to(self, piece)
     }
 
@@ -53,11 +53,11 @@ impl<R, W> Pair<R, W> {
 }
 
 impl<R: Read, W: Write> Link for Pair<R, W> {
-    fn read(&mut self, window: &mut [u8]) -> Result<usize, Fault> {
+    fn read_window(&mut self, window: &mut [u8]) -> Result<usize, Fault> {
         read_from(&mut self.reader, window)
     }
 
-    fn write(&mut self, piece: &[u8]) -> Result<(), Fault> {
+    fn write_piece(&mut self, piece: &[u8]) -> Result<(), Fault> {
         self.writer.as_mut().map_or(Err(Fault::Closed), |writer| write_to(writer, piece))
     }
 

@@ -159,9 +159,9 @@ impl<R: AsMut<[u8]>, M: AsMut<[u8]>> Session<R, M> {
         loop {
             let came = match reply {
                 Reply::Told(number) => return Ended { number, fault },
-                Reply::Ask(Ask::Read(part)) => link.read(self.window(part.range())).map(Report::Read),
+                Reply::Ask(Ask::Read(part)) => link.read_window(self.window(part.range())).map(Report::Read),
                 Reply::Ask(Ask::Close) => link.close().map(|()| Report::Done),
-                Reply::Ask(_) => link.write(self.piece(call)).map(|()| Report::Done),
+                Reply::Ask(_) => link.write_piece(self.piece(call)).map(|()| Report::Done),
             };
             reply = self.tell(call, came.unwrap_or_else(|met| reported(met, &mut fault)));
         }

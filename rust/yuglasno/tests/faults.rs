@@ -107,19 +107,15 @@ impl Write for Stream {
 
 #[test]
 fn streams_as_links() {
-    assert!(matches!(Link::read(&mut Stream(|| Ok(0)), &mut [0]), Err(Fault::Closed)));
-    assert!(matches!(Link::write(&mut Stream(|| Ok(0)), b"x"), Err(Fault::Closed)));
-    for kind in [io::ErrorKind::BrokenPipe, io::ErrorKind::ConnectionReset, io::ErrorKind::ConnectionAborted] {
-        let error = io::Error::from(kind);
-        assert!(code_of(&error) > 65_536);
-    }
+    assert!(matches!(Stream(|| Ok(0)).read_window(&mut [0]), Err(Fault::Closed)));
+    assert!(matches!(Stream(|| Ok(0)).write_piece(b"x"), Err(Fault::Closed)));
     let mut gone = Stream(|| Err(io::ErrorKind::BrokenPipe.into()));
-    assert!(matches!(Link::write(&mut gone, b"x"), Err(Fault::Closed)));
-    assert!(matches!(Link::close(&mut gone), Err(Fault::Closed)));
-    assert!(matches!(Link::read(&mut gone, &mut [0]), Err(Fault::Error(_))));
+    assert!(matches!(gone.write_piece(b"x"), Err(Fault::Closed)));
+    assert!(matches!(gone.close(), Err(Fault::Closed)));
+    assert!(matches!(gone.read_window(&mut [0]), Err(Fault::Error(_))));
     let mut late = Stream(|| Err(io::ErrorKind::TimedOut.into()));
-    assert!(matches!(Link::read(&mut late, &mut [0]), Err(Fault::Error(error)) if code_of(&error) == 65_538));
-    assert!(matches!(Link::write(&mut late, b"x"), Err(Fault::Error(_))));
+    assert!(matches!(late.read_window(&mut [0]), Err(Fault::Error(error)) if code_of(&error) == 65_538));
+    assert!(matches!(late.write_piece(b"x"), Err(Fault::Error(_))));
 }
 
 #[test]
@@ -144,5 +140,5 @@ fn a_pair_closes_its_writer() {
     let mut all = Vec::new();
     reader.read_to_end(&mut all).unwrap();
     assert_eq!(all, b"STAT\x02\0\0\0/aQUIT\0\0\0\0");
-    assert!(matches!(link.write(b"x"), Err(Fault::Closed)));
+    assert!(matches!(link.write_piece(b"x"), Err(Fault::Closed)));
 }

@@ -109,11 +109,11 @@ fn a_path_of_65536_bytes_is_taken() {
 struct Liar(Script);
 
 impl Link for Liar {
-    fn read(&mut self, window: &mut [u8]) -> Result<usize, Fault> {
+    fn read_window(&mut self, window: &mut [u8]) -> Result<usize, Fault> {
         Ok(window.len() + 1)
     }
-    fn write(&mut self, piece: &[u8]) -> Result<(), Fault> {
-        self.0.write(piece)
+    fn write_piece(&mut self, piece: &[u8]) -> Result<(), Fault> {
+        self.0.write_piece(piece)
     }
     fn close(&mut self) -> Result<(), Fault> {
         self.0.close()

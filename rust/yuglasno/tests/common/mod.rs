@@ -45,7 +45,7 @@ impl Script {
 }
 
 impl Link for Script {
-    fn read(&mut self, window: &mut [u8]) -> Result<usize, Fault> {
+    fn read_window(&mut self, window: &mut [u8]) -> Result<usize, Fault> {
         let left = &self.incoming[self.read..];
         let count = self.cut.min(window.len()).min(left.len());
         if count == 0 {
@@ -57,7 +57,7 @@ impl Link for Script {
         Ok(count)
     }
 
-    fn write(&mut self, piece: &[u8]) -> Result<(), Fault> {
+    fn write_piece(&mut self, piece: &[u8]) -> Result<(), Fault> {
         match self.broken {
             Some((from, end)) if self.pieces.len() >= from => Err(end.fault()),
             _ => {

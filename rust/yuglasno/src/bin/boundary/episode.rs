@@ -1,0 +1,215 @@
+//! A session from its opening on: steps that a host would take, and wild ones.
+use crate::crossing::{fault, refused, Function, Slices, ASTRAY};
+use crate::lent::Lent;
+use crate::opening::opened;
+use crate::random::Random;
+use crate::stream::reply;
+use crate::Counts;
+use yuglasno::raw::RECORD;
+
+pub struct Episode<'c> {
+    random: Random,
+    counts: &'c mut Counts,
+    slices: Slices,
+    /// What is asked, by its number; 0 where no call is pending.
+    asked: u32,
+    /// Whether the record is none that the library wrote.
+    altered: bool,
+    /// Whether little more is to be had of the session: it has ended, or a reply is in the way.
+    over: bool,
+    call: u32,
+    incoming: Vec<u8>,
+}
+
+impl<'c> Episode<'c> {
+    /// Up to 80 steps after an opening.
+    pub fn run(mut random: Random, counts: &'c mut Counts) -> Result<(), String> {
+        let Some(slices) = opened(&mut random, counts)? else { return Ok(()) };
+        let mut episode =
+            Self { random, counts, slices, asked: 0, altered: false, over: false, call: 0, incoming: Vec::new() };
+        for _ in 0..episode.random.below(80) {
+            if episode.over && episode.random.one_in(2) {
+                break;
+            }
+            if episode.random.one_in(4) {
+                episode.wild()?;
+            } else {
+                episode.live()?;
+            }
+        }
+        Ok(())
+    }
+
+    /// A step of the session that a host may take.
+    fn live(&mut self) -> Result<(), String> {
+        let function = match self.asked {
+            0 => self.started(),
+            1 => self.read(),
+            _ if self.random.one_in(8) => self.broken(),
+            _ => Function::Wrote,
+        };
+        let number = self.crossed(function)?;
+        if !refused(number) {
+            self.asked = number & 255;
+        } else if self.asked != 0 {
+            return Err(format!("{function:?} is awaited and was answered {}", number >> 8));
+        }
+        self.over |= [6 << 8, 15 << 8, 17 << 8].contains(&number);
+        self.kept(number)
+    }
+
+    /// A session that was not turned away is not turned away at its next call either.
+    fn kept(&mut self, number: u32) -> Result<(), String> {
+        let mut copy = self.slices.clone();
+        match copy.cross(Function::Start { call: 0, a: 0, b: 0 }) >> 8 {
+            4..=6 => Ok(()),
+            then => Err(format!("after {number:#x} the session's record is answered {then}")),
+        }
+    }
+
+    fn started(&mut self) -> Function {
+        self.call = self.random.of(&[1, 2, 3, 4, 5, 6, 7, 8, 9, 10, 12, 12, 12, 13, 13, 13, 14, 14, 14]);
+        if self.random.one_in(60) {
+            self.call = 11;
+        }
+        let length = match self.random.below(12) {
+            0 => self.random.of(&[65_535, 65_536, 65_537, 70_000, 140_000]),
+            1 => 0,
+            _ => self.random.below(30),
+        };
+        let mut path: Vec<u8> = self.random.bytes(length).into_iter().map(|byte| byte | 1).collect();
+        if length > 0 && self.random.one_in(20) {
+            path[length - 1] = 0;
+        }
+        self.slices.lent = Lent::new(&mut self.random, &path);
+        let b = self.random.of(&[0, 0, 0, 1, 2, 4, 3, 8, 0x8000_0000, 0x8000_0004, u32::MAX]);
+        Function::Start { call: self.call, a: self.random.number(0) as u32, b }
+    }
+
+    /// Bytes of the panel into the window, any bytes behind them; or the end of the channel.
+    fn read(&mut self) -> Function {
+        if self.random.one_in(16) {
+            return self.broken();
+        }
+        if self.incoming.is_empty() {
+            self.incoming = reply(&mut self.random, self.call);
+        }
+        let (at, window) = (self.slices.word(0) as usize, self.slices.word(1) as usize);
+        let most = window.min(self.incoming.len());
+        let count = if self.random.one_in(2) { most } else { 1 + self.random.below(most) };
+        let bytes: Vec<u8> = self.incoming.drain(..count).collect();
+        let window = &mut self.slices.rx.lend()[at..];
+        window.fill(0xEE);
+        window[..count].copy_from_slice(&bytes);
+        Function::Read(count)
+    }
+
+    fn broken(&mut self) -> Function {
+        Function::Fault { kind: self.random.below(2) as u32, code: self.random.next() as u32 }
+    }
+
+    /// A few crossings with anything, on slices that may be others; then the session is what it was.
+    fn wild(&mut self) -> Result<(), String> {
+        let (whole, asked) = (self.slices.clone(), self.asked);
+        for _ in 0..self.random.below(3) {
+            self.bent();
+        }
+        self.altered = whole.rec.bytes() != self.slices.rec.bytes();
+        for _ in 0..1 + self.random.below(4) {
+            let function = self.any_function();
+            let number = self.crossed(function)?;
+            if !refused(number) {
+                self.asked = number & 255;
+            }
+        }
+        (self.slices, self.asked, self.altered) = (whole, asked, false);
+        Ok(())
+    }
+
+    /// What is asked for, in half the cases where something is; else any function with any numbers.
+    fn any_function(&mut self) -> Function {
+        let near = self.slices.rx.bytes().len() as u64;
+        match (self.asked, self.random.below(8)) {
+            (1, 0..4) => Function::Read(1 + self.random.below(20)),
+            (2..=5, 0..4) | (_, 4) => Function::Wrote,
+            (_, 5) => Function::Read(self.random.number(near) as usize),
+            (_, 6) => Function::Fault { kind: self.random.number(0) as u32, code: self.random.number(0) as u32 },
+            _ => Function::Start {
+                call: if self.random.one_in(4) { self.random.number(14) as u32 } else { self.random.below(16) as u32 },
+                a: self.random.number(0) as u32,
+                b: self.random.number(0x8000_0007) as u32,
+            },
+        }
+    }
+
+    /// One of the slices becomes another.
+    fn bent(&mut self) {
+        let random = &mut self.random;
+        let s = &mut self.slices;
+        match random.below(10) {
+            0 => s.rec = Lent::filled(random, RECORD),
+            1 => {
+                let length = random.number(RECORD as u64).min(400) as usize;
+                let mut bytes = s.rec.bytes().to_vec();
+                bytes.resize(length, 0);
+                s.rec = Lent::new(random, &bytes);
+            }
+            2 => s.rx = resized(random, &s.rx),
+            3 => s.msg = resized(random, &s.msg),
+            4 => s.lent = resized(random, &s.lent),
+            5 => s.out = resized(random, &s.out),
+            6 => {
+                let at = random.below(s.rec.bytes().len());
+                if let Some(byte) = s.rec.lend().get_mut(at) {
+                    *byte ^= 1 << random.below(8);
+                }
+            }
+            _ => {
+                let field = if random.one_in(4) {
+                    random.below(RECORD / 8)
+                } else {
+                    random.of(&[2, 3, 4, 7, 8, 9, 10, 11, 12, 13])
+                };
+                let near = s.rx.bytes().len() as u64;
+                let number = if random.one_in(2) { random.below(40) as u64 } else { random.number(near) };
+                if let Some(bytes) = s.rec.lend().get_mut(8 * field..8 * field + 8) {
+                    bytes.copy_from_slice(&number.to_le_bytes());
+                }
+            }
+        }
+    }
+
+    /// A crossing, checked; now and then made twice from the same slices, to the same end.
+    fn crossed(&mut self, function: Function) -> Result<u32, String> {
+        let before = self.slices.clone();
+        let number = self.slices.cross(function);
+        self.counts.calls += 1;
+        match number & 255 {
+            0 => self.counts.answered[(number >> 8).min(17) as usize] += 1,
+            what => self.counts.asked[what.min(5) as usize] += 1,
+        }
+        match fault(&before, &self.slices, number) {
+            Some(fault) if fault != ASTRAY || !self.altered => {
+                return Err(format!("{function:?} returned {number:#x}: {fault}"));
+            }
+            Some(_) => self.counts.astray += 1,
+            None => {}
+        }
+        if self.random.one_in(8) {
+            let mut again = before;
+            let slices = |s: &Slices| [&s.rec, &s.rx, &s.msg, &s.out].map(|slice| slice.bytes().to_vec());
+            if again.cross(function) != number || slices(&again) != slices(&self.slices) {
+                return Err(format!("{function:?} returned {number:#x}, and another time something else"));
+            }
+        }
+        Ok(number)
+    }
+}
+
+/// A slice of another length, at the same start.
+fn resized(random: &mut Random, slice: &Lent) -> Lent {
+    let length = random.number(slice.bytes().len() as u64).min(70_000) as usize;
+    let mut bytes = slice.bytes().to_vec();
+    bytes.resize(length, 0xEE);
+    Lent::new(random, &bytes)
+}

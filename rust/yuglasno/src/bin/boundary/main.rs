@@ -1,0 +1,65 @@
+//! The exported functions under any input: `boundary CALLS SEED`. Sessions are run with random calls and reports; between
+//! their steps, and on copies of them, the functions are called with records, buffers, paths, call numbers, flags and
+//! counts of any value. Every crossing is checked: see `crossing.rs`. Exit status 1 at the first fault.
+#![forbid(unsafe_code)]
+
+mod crossing;
+mod episode;
+mod lent;
+mod opening;
+mod random;
+mod stream;
+
+use episode::Episode;
+use random::Random;
+use std::process::ExitCode;
+
+/// How often each thing was answered or asked.
+#[derive(Default)]
+pub struct Counts {
+    pub calls: u64,
+    pub opened: u64,
+    pub answered: [u64; 18],
+    pub asked: [u64; 6],
+    /// Parts outside their slices, of altered records.
+    pub astray: u64,
+}
+
+fn main() -> ExitCode {
+    let words: Vec<String> = std::env::args().skip(1).collect();
+    let numbers: Vec<u64> = words.iter().filter_map(|word| word.parse().ok()).collect();
+    let [calls, seed] = numbers[..] else {
+        eprintln!("usage: boundary CALLS SEED");
+        return ExitCode::from(64);
+    };
+    let mut counts = Counts::default();
+    let mut episodes = 0;
+    while counts.calls < calls {
+        episodes += 1;
+        let random = Random(seed.wrapping_mul(1_000_003).wrapping_add(episodes));
+        if let Err(fault) = Episode::run(random, &mut counts) {
+            println!("boundary: seed {seed}, episode {episodes}, call {}: {fault}", counts.calls);
+            return ExitCode::from(1);
+        }
+    }
+    print(&counts, seed);
+    ExitCode::SUCCESS
+}
+
+fn print(counts: &Counts, seed: u64) {
+    let sum = |numbers: &[u64]| numbers.iter().sum::<u64>();
+    let each: Vec<String> = counts.answered.iter().enumerate().map(|(number, n)| format!("{number}: {n}")).collect();
+    println!("answers by number: {}", each.join(", "));
+    println!("parts outside their slices, all of records that were altered: {}", counts.astray);
+    println!(
+        "{} calls (seed {seed}): {} opened, {} refused, {} answered, {} asked for reads, {} for writes, {} for the close; \
+         no byte out of place",
+        counts.calls,
+        counts.opened,
+        sum(&counts.answered[1..12]),
+        counts.answered[0] + sum(&counts.answered[12..]),
+        counts.asked[1],
+        sum(&counts.asked[2..5]),
+        counts.asked[5],
+    );
+}

@@ -1,0 +1,79 @@
+//! Openings, for buffers and banners of any kind.
+use crate::crossing::Slices;
+use crate::lent::Lent;
+use crate::random::Random;
+use crate::Counts;
+use yuglasno::raw::{self, RECORD, REPLY};
+
+const NAMES: [&str; 9] = [
+    "stat_v2",
+    "ls_v2",
+    "sendrecv_v2",
+    "sendrecv_v2_brotli",
+    "sendrecv_v2_lz4",
+    "sendrecv_v2_zstd",
+    "sendrecv_v2_dry_run_send",
+    "sendrecv",
+    "",
+];
+
+/// An opening with any numbers, checked; then one for buffers of these lengths, where it is taken.
+pub fn opened(random: &mut Random, counts: &mut Counts) -> Result<Option<Slices>, String> {
+    let rx = match random.below(12) {
+        0 => random.below(8),
+        1 => random.of(&[4096, 65_544, 70_000]),
+        _ => 8 + random.below(100),
+    };
+    let msg = if random.one_in(12) { random.below(rx + 2) } else { rx + random.below(9) };
+    let length = random.number(RECORD as u64).min(400) as usize;
+    let (any_rx, any_msg) = (random.number(8) as usize, random.number(8) as usize);
+    let mut elsewhere = Lent::filled(random, length);
+    open(random, counts, &mut elsewhere, any_rx, any_msg)?;
+    let mut rec = Lent::filled(random, RECORD);
+    if open(random, counts, &mut rec, rx, msg)? != 0 {
+        return Ok(None);
+    }
+    let (rx, msg) = (Lent::filled(random, rx), Lent::filled(random, msg));
+    Ok(Some(Slices { rec, rx, msg, lent: Lent::filled(random, 0), out: Lent::filled(random, REPLY) }))
+}
+
+fn open(random: &mut Random, counts: &mut Counts, rec: &mut Lent, rx: usize, msg: usize) -> Result<u32, String> {
+    let before = rec.bytes().to_vec();
+    let banner = banner(random);
+    let banner = Lent::new(random, &banner);
+    let number = raw::open(rec.lend(), banner.bytes(), rx, msg);
+    counts.calls += 1;
+    let expected = match () {
+        _ if rx < 8 => 1,
+        _ if msg < rx => 2,
+        _ if before.len() != RECORD => 3,
+        _ => 0,
+    };
+    if number != expected {
+        return Err(format!("opening {} bytes for {rx} and {msg} answered {number}", before.len()));
+    }
+    if !rec.guards_stand() || !banner.guards_stand() || (number > 0 && before != rec.bytes()) {
+        return Err(format!("opening for {rx} and {msg}, answered {number}, changed what it may not"));
+    }
+    match number {
+        0 => counts.opened += 1,
+        _ => counts.answered[number as usize] += 1,
+    }
+    Ok(number)
+}
+
+fn banner(random: &mut Random) -> Vec<u8> {
+    if random.one_in(2) {
+        return [b"features=", NAMES.join(",").as_bytes()].concat();
+    }
+    let mut banner = random.of(&["", "features=", "features=", "device::features=", "feat"]).as_bytes().to_vec();
+    for _ in 0..random.below(9) {
+        banner.extend(random.of(&NAMES).as_bytes());
+        banner.push(random.of(b",,,;x"));
+    }
+    if random.one_in(8) {
+        let length = random.below(100);
+        banner.extend(random.bytes(length));
+    }
+    banner
+}
