@@ -34,9 +34,11 @@ fn run(plan: &Plan) -> Result<(), Stop> {
     let mut place = place::reached(plan)?;
     let (rx, msg) = (vec![0; plan.capacity], vec![0; plan.capacity]);
     let mut session = Session::open(&place.banner, rx, msg)?;
-    let mut said: Box<dyn Write> = if place.takes_stdout { Box::new(io::stderr()) } else { Box::new(io::stdout()) };
-    let done = commands::run(&mut session, &mut *place.link, &plan.command, &mut *said);
+    let out: Box<dyn Write> = if place.takes_stdout { Box::new(io::stderr()) } else { Box::new(io::stdout()) };
+    let mut said = io::BufWriter::new(out);
+    let done = commands::run(&mut session, &mut *place.link, &plan.command, &mut said);
     let quit = session.quit(&mut *place.link).map_err(Stop::from);
     place.leave();
-    done.and(quit).and_then(|()| said.flush().map_err(|e| Stop::output(&e)))
+    let shown = said.flush().map_err(|e| Stop::output(&e));
+    done.and(quit).and(shown)
 }
