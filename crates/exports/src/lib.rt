@@ -6,7 +6,7 @@ ghost use lib.ListN.{length};
 ghost use Rattle.boundary.specs.Crossing.{crossed, isRefusal, back, requestNumbered, callNumbered, stepNumbered, unknownCall, crossOpen, crossStart, crossRead, crossWrote, crossFault};
 ghost use Rattle.record.specs.Record.{size};
 ghost use Rattle.session.specs.State as S;
-ghost use Rattle.exports.specs.Numbered.{asked, faultNumbered, openCrossed};
+ghost use Rattle.exports.specs.Numbered.{asked, faultNumbered, openCrossed, readAnew};
 use calls::Opened;
 use calls::call_refusal;
 use calls::next_entry;
@@ -19,6 +19,7 @@ use record_load::Loaded;
 use record_load::load;
 use record_store::store;
 use record_store::store_tail;
+use reply::put_two;
 use reply::tell;
 use reports::fault;
 use reports::read;
@@ -205,7 +206,31 @@ pub extern "C" fn yuglasno_start(
     }
 }
 
-// count bytes were read into the window. Where they leave the need short, only tail is loaded anew and written.
+// count bytes were read into the window.
+fn read_in(
+    rec: &mut [u8],
+    rx: &mut [u8],
+    msg: &mut [u8],
+    lent: &[u8],
+    count: usize,
+    out: &mut [u8],
+) -> u32
+    ensures { λ r. ⌜ crossed (now (rec .exit)) (now (rx .exit)) (now (msg .exit)) (now (out .exit)) r ≡ readAnew (now (rec .entry)) (now (rx .entry)) (now (msg .entry)) (now (lent .entry)) count (now (out .entry)) ⌝ }
+{
+    if out.len() < 112 {
+        return 768;
+    }
+    let loaded = load(rec);
+    match loaded {
+        Loaded::Unknown => 768,
+        Loaded::Session(s) => {
+            let stepped = read(s, rx, msg, lent.len(), count);
+            give_back(stepped, rec, out)
+        }
+    }
+}
+
+// The same. Where the bytes leave the need short, only tail is loaded and stored.
 #[no_mangle]
 pub extern "C" fn yuglasno_read(
     rec: &mut [u8],
@@ -217,23 +242,17 @@ pub extern "C" fn yuglasno_read(
 ) -> u32
     ensures { λ r. ⌜ crossed (now (rec .exit)) (now (rx .exit)) (now (msg .exit)) (now (out .exit)) r ≡ crossRead (now (rec .entry)) (now (rx .entry)) (now (msg .entry)) (now (lent .entry)) count (now (out .entry)) ⌝ }
 {
-    if out.len() < 112 {
-        return 768;
-    }
     let tail = short_tail(rec, rx.len(), msg.len(), lent.len(), count);
-    if 0 < tail {
-        store_tail(rec, tail);
-        let len = rx.len() - tail;
-        return tell(Reply::Read { at: tail, len }, out);
+    if tail == 0 {
+        return read_in(rec, rx, msg, lent, count, out);
     }
-    let loaded = load(rec);
-    match loaded {
-        Loaded::Unknown => 768,
-        Loaded::Session(s) => {
-            let stepped = read(s, rx, msg, lent.len(), count);
-            give_back(stepped, rec, out)
-        }
+    if out.len() < 112 {
+        return read_in(rec, rx, msg, lent, count, out);
     }
+    let len = rx.len() - tail;
+    store_tail(rec, tail);
+    put_two(out, tail as u64, len as u64);
+    1
 }
 
 // The write or the close that was asked for was accepted.

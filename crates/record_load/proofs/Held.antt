@@ -5,7 +5,7 @@ use mathlib.Core.Option.{none, some}
 use mathlib.Core.Path.{_≡_, refl, sym, _∙_}
 use Prim.Native.Nat.{ℕ, _<_}
 use native.Mathlib.Omega.{arith}
-use borrow.Author.Tests.{eqb-true, ltb-true}
+use borrow.Author.Tests.{lt-ltb, eq-eqb, eqb-true, ltb-true}
 use lib.Dec.{eqb, ltb}
 use lib.ListN.{length}
 use Rattle.record.specs.Fields.{known, sessionOf}
@@ -27,13 +27,22 @@ module _ (rec : List ℕ) where
   pub held-size : holds ≡ true → length rec ≡ size
   held-size e = eqb-true (length rec) size (and-eq-true-iff (eqb (length rec) size) (known (wordOf rec)) .0 e .0)
 
-  pub held-state : holds ≡ true → wordOf rec 7 < 31
+  -- its features, its end, its state and its flag are in range
+  pub held-known : holds ≡ true → (wordOf rec 5 < 128) × (wordOf rec 6 < 2) × (wordOf rec 7 < 31) × (wordOf rec 8 < 2)
   unfolding known
-  held-state e =
+  held-known e =
       let w = wordOf rec in
       let k = and-eq-true-iff (eqb (length rec) size) (known w) .0 e .1 in
-      let i = and-eq-true-iff (ltb (w 5) 128 && ltb (w 6) 2 && ltb (w 7) 31) (ltb (w 8) 2) .0 k .0 in
-      ltb-true (w 7) 31 (and-eq-true-iff (ltb (w 5) 128 && ltb (w 6) 2) (ltb (w 7) 31) .0 i .1)
+      let (i, h) = and-eq-true-iff (ltb (w 5) 128 && ltb (w 6) 2 && ltb (w 7) 31) (ltb (w 8) 2) .0 k in
+      let (j, g) = and-eq-true-iff (ltb (w 5) 128 && ltb (w 6) 2) (ltb (w 7) 31) .0 i in
+      let (d, f) = and-eq-true-iff (ltb (w 5) 128) (ltb (w 6) 2) .0 j in
+      (ltb-true (w 5) 128 d, ltb-true (w 6) 2 f, ltb-true (w 7) 31 g, ltb-true (w 8) 2 h)
+
+  pub held-of : length rec ≡ size → wordOf rec 5 < 128 → wordOf rec 6 < 2 → wordOf rec 7 < 31 → wordOf rec 8 < 2 → holds ≡ true
+  unfolding known
+  held-of l a b c d =
+      let w = wordOf rec in
+      rw (eq-eqb (length rec) size l, lt-ltb (w 5) 128 a, lt-ltb (w 6) 2 b, lt-ltb (w 7) 31 c, lt-ltb (w 8) 2 d)
 
   -- a record that holds a session is 192 bytes long
   pub loaded-size : (s : Session) → some s ≡ loaded rec → length rec ≡ size

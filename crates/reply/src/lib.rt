@@ -66,7 +66,7 @@ fn spelled(a: u8, b: u8, c: u8, d: u8) -> u64
 }
 
 // Two numbers at the front; nothing where they do not fit.
-fn put_two(out: &mut [u8], a: u64, b: u64)
+pub fn put_two(out: &mut [u8], a: u64, b: u64)
     ensures { λ _. ⌜ now (out .exit) ≡ put (now (out .entry)) 0 (words (a ∷ b ∷ [])) ⌝ }
 {
     if out.len() < 16 {

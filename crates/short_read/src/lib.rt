@@ -1,14 +1,13 @@
 // A read that leaves its need short, told from the record's own numbers.
-ghost use mathlib.Core.Bool.{_&&_};
 ghost use mathlib.Core.Path.{_≡_};
-ghost use Prim.Native.Nat.{_<_};
-ghost use lib.Dec.{eqb};
+ghost use Prim.Native.Nat.{_<_, _≤_};
 ghost use lib.ListN.{length};
-ghost use Rattle.record.specs.Fields.{known, sessionOf};
+ghost use Rattle.record.specs.Fields.{sessionOf};
 ghost use Rattle.record.specs.Record.{size, wordOf, loaded};
 ghost use Rattle.session.specs.Calls.{misfit};
-ghost use Rattle.short_read.specs.Short.{tailAt, shortTail, shortIn};
+ghost use Rattle.short_read.specs.Short.{tailAt, awaitsRead, shortTail, shortIn};
 use format_number::u64_at;
+use record::SIZE;
 
 // The i-th number of a record.
 fn word(rec: &[u8], i: usize) -> usize
@@ -18,21 +17,25 @@ fn word(rec: &[u8], i: usize) -> usize
     u64_at(rec, 8 * i) as usize
 }
 
-// Whether a record holds a session.
-fn is_known(rec: &[u8]) -> bool
-    ensures { λ r. ⌜ r ≡ (eqb (length (now (rec .entry))) size && known (wordOf (now (rec .entry)))) ⌝ }
+// Whether a record holds a session that awaits a read.
+fn is_reading(rec: &[u8]) -> bool
+    ensures { λ r. ⌜ r ≡ awaitsRead (now (rec .entry)) ⌝ }
 {
-    if rec.len() == 192 {
+    if rec.len() == SIZE {
         if 128 <= word(rec, 5) {
             return false;
         }
-        if 2 <= word(rec, 6) {
-            return false;
+        if word(rec, 6) == 0 {
+            let state = word(rec, 7);
+            if state < 13 {
+                return false;
+            }
+            if 31 <= state {
+                return false;
+            }
+            return word(rec, 8) < 2;
         }
-        if 31 <= word(rec, 7) {
-            return false;
-        }
-        return word(rec, 8) < 2;
+        return false;
     }
     false
 }
@@ -87,18 +90,12 @@ fn tail_at(capacity: usize, tail: usize, until: usize, n: usize) -> usize
     0
 }
 
-// Where tail comes to in a record that holds a session; 0 for a read that does not leave its need short.
+// Where tail comes to in a record that awaits a read; 0 for a read that does not leave its need short.
 fn tail_in(rec: &[u8], rx: usize, msg: usize, lent: usize, n: usize) -> usize
-    requires { ⌜ (length (now rec) ≡ size) × (wordOf (now rec) 7 < 31) ⌝ }
+    requires { ⌜ (length (now rec) ≡ size) × (wordOf (now rec) 6 ≡ 0) × (13 ≤ wordOf (now rec) 7) × (wordOf (now rec) 7 < 31) ⌝ }
     ensures { λ r. ⌜ r ≡ shortTail (sessionOf (wordOf (now (rec .entry)))) rx msg lent n ⌝ }
 {
     if is_misfit(rec, rx, msg) {
-        return 0;
-    }
-    if word(rec, 6) == 1 {
-        return 0;
-    }
-    if word(rec, 7) < 13 {
         return 0;
     }
     if lent == word(rec, 4) {
@@ -107,11 +104,11 @@ fn tail_in(rec: &[u8], rx: usize, msg: usize, lent: usize, n: usize) -> usize
     0
 }
 
-// The same, and 0 for a record that holds no session.
+// The same, and 0 for any other record.
 pub fn short_tail(rec: &[u8], rx: usize, msg: usize, lent: usize, n: usize) -> usize
     ensures { λ r. ⌜ r ≡ shortIn (loaded (now (rec .entry))) rx msg lent n ⌝ }
 {
-    if is_known(rec) {
+    if is_reading(rec) {
         return tail_in(rec, rx, msg, lent, n);
     }
     0

@@ -1,5 +1,4 @@
--- `short_read::tail_in` meets its contract: at each return the record's numbers say whether the read leaves its need short. Assumes nothing.
-use mathlib.Core.Bool.{true, false}
+-- `short_read::tail_in` meets its contract. Assumes nothing.
 use mathlib.Core.Path.{sym, _∙_}
 use native.Mathlib.Omega.{arith}
 use borrow.Author.Needs.{needs}
@@ -7,7 +6,7 @@ use borrow.Author.Tests.{eq-eqb, ne-eqb}
 use denote.Ref.{now}
 use Rattle.record.specs.Fields.{sessionOf}
 use Rattle.record.specs.Record.{wordOf}
-use Rattle.short_read.proofs.Laws.{waiting, reading, short, short-misfit, short-ended, short-lent, short-at, short-waiting, at-words}
+use Rattle.short_read.proofs.Laws.{reading, short, short-misfit, short-lent, short-at, at-words}
 use Rattle.short_read.proofs.tail_in.Statement.{statement}
 use Rattle.short_read.proofs.tail_in.Tie as tie
 
@@ -16,37 +15,24 @@ misfits c =
     let a = c .before .before .before .args in
     short-misfit (sessionOf (wordOf (now (a .rec)))) (a .rx) (a .msg) (a .lent) (a .n) (sym (c .before .is-misfit .ensures) ∙ c .if1 .taken)
 
-ends : tie.Need-returns-2
-unfolding sessionOf
-ends c =
-    let a = c .before .before .before .before .before .args in
-    let w = wordOf (now (a .rec)) in
-    short-ended (sessionOf w) (a .rx) (a .msg) (a .lent) (a .n) (sym (c .before .before .before .is-misfit .ensures) ∙ c .before .before .if1 .left) (eq-eqb (w 6) 1 (omega arith))
-
-waits : tie.Need-returns-3
-unfolding sessionOf
-waits c =
-    let a = c .before .before .before .before .before .before .before .args in
-    let w = wordOf (now (a .rec)) in
-    short-waiting (sessionOf w) (a .rx) (a .msg) (a .lent) (a .n) (waiting w (sessionOf w) (a .n) (omega arith))
-
-shorts : tie.Need-returns-4
+shorts : tie.Need-returns-2
 unfolding sessionOf
 shorts c =
-    let a = c .before .before .before .before .before .before .before .before .before .before .before .before .before .args in
-    let w = wordOf (now (a .rec)) in
-    let r = reading w (sessionOf w) (a .n) (omega arith) (c .before .before .before .before .before .before .before .before .before .before .before .before .before .pre .1) in
-    c .tail-at .ensures
-    ∙ at-words (a .n) (c .before .before .before .word4 .ensures) (c .before .before .word5 .ensures) (c .before .word6 .ensures)
-    ∙ short-at (sessionOf w) (a .rx) (a .msg) (a .lent) (a .n) (sym (c .before .before .before .before .before .before .before .before .before .before .before .is-misfit .ensures) ∙ c .before .before .before .before .before .before .before .before .before .before .if1 .left) (r .0) (ne-eqb (w 6) 1 (λ e. c .before .before .before .before .before .before .before .before .if2 .left (omega arith)))
-    (eq-eqb (a .lent) (w 4) (omega arith)) (short w (sessionOf w) (a .n)) (r .1)
-
-lends : tie.Need-returns-5
-unfolding sessionOf
-lends c =
     let a = c .before .before .before .before .before .before .before .before .before .args in
     let w = wordOf (now (a .rec)) in
-    short-lent (sessionOf w) (a .rx) (a .msg) (a .lent) (a .n) (sym (c .before .before .before .before .before .before .before .is-misfit .ensures) ∙ c .before .before .before .before .before .before .if1 .left) (ne-eqb (a .lent) (w 4) (λ e. c .if4 .left (omega arith)))
+    let (l, z, f, g) = c .before .before .before .before .before .before .before .before .before .pre in
+    let r = reading w (sessionOf w) (a .n) f g in
+    c .tail-at .ensures
+    ∙ at-words (a .n) (c .before .before .before .word2 .ensures) (c .before .before .word3 .ensures) (c .before .word4 .ensures)
+    ∙ short-at (sessionOf w) (a .rx) (a .msg) (a .lent) (a .n) (sym (c .before .before .before .before .before .before .before .is-misfit .ensures) ∙ c .before .before .before .before .before .before .if1 .left) (r .0) (ne-eqb (w 6) 1 (λ e. omega arith))
+    (eq-eqb (a .lent) (w 4) (omega arith)) (short w (sessionOf w) (a .n)) (r .1)
+
+lends : tie.Need-returns-3
+unfolding sessionOf
+lends c =
+    let a = c .before .before .before .before .before .args in
+    let w = wordOf (now (a .rec)) in
+    short-lent (sessionOf w) (a .rx) (a .msg) (a .lent) (a .n) (sym (c .before .before .before .is-misfit .ensures) ∙ c .before .before .if1 .left) (ne-eqb (a .lent) (w 4) (λ e. c .if2 .left (omega arith)))
 
 pub tail-in-spec : {M : Type 1} → statement M
 tail-in-spec =
@@ -54,10 +40,6 @@ tail-in-spec =
     (tie.spec
     (λ c κs. search needs)
     misfits
-    (λ c κs. search needs)
-    ends
-    (λ c κs. search needs)
-    waits
     (λ c κs. search needs)
     (λ c κs. search needs)
     (λ c κs. search needs)

@@ -1,0 +1,47 @@
+-- `exports::read_in` meets its contract. Assumes nothing.
+use borrow.Author.Needs.{needs}
+use denote.Ref.{now}
+use lib.ListN.{length}
+use Rattle.session.specs.Reports.{reportRead}
+use Rattle.exports.specs.Numbered.{readAnew}
+use Rattle.exports.proofs.Crossings.{cross-short, cross-unknown, cross-back, found-size}
+use Rattle.exports.proofs.read_in.Statement.{statement}
+use Rattle.exports.proofs.read_in.Tie as tie
+
+short : tie.Need-returns
+unfolding readAnew
+short c = let a = c .before .before .before .before .before .before .args in cross-short (now (a .rec)) (now (a .rx)) (now (a .msg)) (now (a .out)) _ (c .if1 .taken)
+
+unknown : tie.Need-returns-2
+unfolding readAnew
+unknown c =
+    let a = c .before .before .before .before .before .before .before .before .before .before .args in
+    cross-unknown (now (a .rec)) (now (a .rx)) (now (a .msg)) (now (a .out)) _ (c .before .before .before .before .if1 .left) _ (c .enum-told .given .1) (c .before .before .load .ensures)
+
+sized : tie.Need-give-back-requires
+sized c κs = found-size (now (c .before .before .before .before .before .before .before .before .before .before .before .before .before .before .before .before .before .before .before .before .args .rec)) _ _ (c .before .before .before .before .before .before .before .before .before .before .loaded .given .1) (c .before .before .before .before .before .before .before .before .before .before .before .before .load .ensures)
+
+stepped : tie.Need-returns-3
+unfolding readAnew
+stepped c =
+    let a = c .before .before .before .before .before .before .before .before .before .before .before .before .before .before .before .before .before .before .before .before .before .before .before .before .before .args in
+    cross-back (now (a .rec)) (now (a .rx)) (now (a .msg)) (now (a .out)) (λ s. reportRead s (length (now (a .lent))) (a .count)) (c .before .before .before .before .before .before .before .before .before .before .before .before .before .before .before .before .before .before .before .if1 .left)
+    _ _ (c .before .before .before .before .before .before .before .before .before .before .before .before .before .before .before .loaded .given .1) (c .before .before .before .before .before .before .before .before .before .before .before .before .before .before .before .before .before .load .ensures) _ (c .before .before .before .before .before .before .before .before .before .before .before .read .ensures) _ (c .before .before .before .before .give-back .ensures _ _)
+
+pub read-in-spec : {M : Type 1} → statement M
+read-in-spec =
+    tie.close
+    (tie.spec
+    short
+    (λ c κs. search needs)
+    (λ c. search needs)
+    (λ c. search needs)
+    (λ c κs. search needs)
+    sized
+    (λ c. search needs)
+    unknown
+    (λ c. search needs)
+    (λ c. search needs)
+    (λ c. search needs)
+    (λ c. search needs)
+    stepped)
