@@ -20,7 +20,7 @@ use Rattle.session.specs.declared.Reply.the-variants as R
 use Rattle.session.specs.declared.Session.{Session}
 use Rattle.short_read.proofs.Tails.{Short, short-of, long-of}
 use Rattle.short_read.specs.Short.{shortIn}
-use Rattle.exports.specs.Numbered.{readAnew}
+use Rattle.exports.specs.Crossed.{readAnew}
 use Rattle.exports.proofs.Crossings.{cross-short}
 
 -- t is the tail that the record's numbers say

@@ -3,8 +3,8 @@ use borrow.Author.Needs.{needs}
 use denote.Ref.{now}
 use lib.ListN.{length}
 use Rattle.session.specs.Reports.{reportRead}
-use Rattle.exports.specs.Numbered.{readAnew}
-use Rattle.exports.proofs.Crossings.{cross-short, cross-unknown, cross-back, found-size}
+use Rattle.exports.specs.Crossed.{readAnew}
+use Rattle.exports.proofs.Crossings.{cross-short, cross-unknown, cross-back}
 use Rattle.exports.proofs.read_in.Statement.{statement}
 use Rattle.exports.proofs.read_in.Tie as tie
 
@@ -17,9 +17,6 @@ unfolding readAnew
 unknown c =
     let a = c .before .before .before .before .before .before .before .before .before .before .args in
     cross-unknown (now (a .rec)) (now (a .rx)) (now (a .msg)) (now (a .out)) _ (c .before .before .before .before .if1 .left) _ (c .enum-told .given .1) (c .before .before .load .ensures)
-
-sized : tie.Need-give-back-requires
-sized c κs = found-size (now (c .before .before .before .before .before .before .before .before .before .before .before .before .before .before .before .before .before .before .before .before .args .rec)) _ _ (c .before .before .before .before .before .before .before .before .before .before .loaded .given .1) (c .before .before .before .before .before .before .before .before .before .before .before .before .load .ensures)
 
 stepped : tie.Need-returns-3
 unfolding readAnew
@@ -37,7 +34,7 @@ read-in-spec =
     (λ c. search needs)
     (λ c. search needs)
     (λ c κs. search needs)
-    sized
+    (λ c κs. search needs)
     (λ c. search needs)
     unknown
     (λ c. search needs)

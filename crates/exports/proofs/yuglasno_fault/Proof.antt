@@ -4,8 +4,8 @@ use denote.Ref.{now}
 use Rattle.boundary.specs.Crossing.{crossFault}
 use lib.ListN.{length}
 use Rattle.session.specs.Reports.{reportFault}
-use Rattle.exports.specs.Numbered.{faultNumbered}
-use Rattle.exports.proofs.Crossings.{cross-short, cross-unknown, cross-back, found-size, fault-eq}
+use Rattle.numbered.specs.Numbered.{faultNumbered}
+use Rattle.exports.proofs.Crossings.{cross-short, cross-unknown, cross-back, fault-eq}
 use Rattle.exports.proofs.yuglasno_fault.Statement.{statement}
 use Rattle.exports.proofs.yuglasno_fault.Tie as tie
 
@@ -18,9 +18,6 @@ unfolding crossFault
 unknown c =
     let a = c .before .before .before .before .before .before .before .before .before .before .args in
     cross-unknown (now (a .rec)) (now (a .rx)) (now (a .msg)) (now (a .out)) _ (c .before .before .before .before .if1 .left) _ (c .enum-told .given .1) (c .before .before .load .ensures)
-
-sized : tie.Need-give-back-requires
-sized c κs = found-size (now (c .before .before .before .before .before .before .before .before .before .before .before .before .before .before .before .before .before .before .before .before .before .args .rec)) _ _ (c .before .before .before .before .before .before .before .before .before .before .before .loaded .given .1) (c .before .before .before .before .before .before .before .before .before .before .before .before .before .load .ensures)
 
 stepped : tie.Need-returns-3
 unfolding crossFault
@@ -39,7 +36,7 @@ yuglasno-fault-spec =
     (λ c. search needs)
     (λ c κs. search needs)
     (λ c κs. search needs)
-    sized
+    (λ c κs. search needs)
     (λ c. search needs)
     unknown
     (λ c. search needs)

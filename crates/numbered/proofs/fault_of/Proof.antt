@@ -1,7 +1,7 @@
--- `exports::fault_of` meets its contract. Assumes nothing.
+-- `numbered::fault_of` meets its contract. Assumes nothing.
 use borrow.Author.Tests.{eq-eqb, ne-eqb}
-use Rattle.exports.proofs.fault_of.Statement.{statement}
-use Rattle.exports.proofs.fault_of.Tie as tie
+use Rattle.numbered.proofs.fault_of.Statement.{statement}
+use Rattle.numbered.proofs.fault_of.Tie as tie
 
 pub fault-of-spec : {M : Type 1} → statement M
 fault-of-spec =

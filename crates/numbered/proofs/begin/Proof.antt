@@ -1,4 +1,4 @@
--- `exports::begin` meets its contract. Assumes nothing.
+-- `numbered::begin` meets its contract. Assumes nothing.
 use mathlib.Core.Option.{Option}
 use mathlib.Core.Path.{sym, ap, _∙_}
 use borrow.Author.Needs.{needs}
@@ -6,9 +6,9 @@ use denote.Ref.{now}
 use Rattle.boundary.specs.Crossing.{callNumbered, unknownCall}
 use Rattle.request.specs.declared.Request.{Request}
 use Rattle.session.specs.State.{st}
-use Rattle.exports.specs.Numbered.{asked}
-use Rattle.exports.proofs.begin.Statement.{statement}
-use Rattle.exports.proofs.begin.Tie as tie
+use Rattle.numbered.specs.Numbered.{asked}
+use Rattle.numbered.proofs.begin.Statement.{statement}
+use Rattle.numbered.proofs.begin.Tie as tie
 
 starts : tie.Need-returns
 starts c =

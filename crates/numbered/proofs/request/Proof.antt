@@ -1,4 +1,4 @@
--- `exports::request` meets its contract: in each arm the request in the place of its key. Assumes nothing.
+-- `numbered::request` meets its contract: in each arm the request in the place of its key. Assumes nothing.
 use mathlib.Core.Option.{none}
 use mathlib.Core.Path.{_≡_, refl, sym, ap}
 use Prim.Native.Nat.{ℕ, zero, suc, _≤_}
@@ -6,8 +6,8 @@ use native.Mathlib.Omega.{arith}
 use lib.ListN.{List·getD-eq-default}
 use Rattle.boundary.specs.Crossing.{requestNumbered}
 use Rattle.record_load.proofs.Arms.{past}
-use Rattle.exports.proofs.request.Statement.{statement}
-use Rattle.exports.proofs.request.Tie as tie
+use Rattle.numbered.proofs.request.Statement.{statement}
+use Rattle.numbered.proofs.request.Tie as tie
 
 -- the request in the place that an arm's key says
 numbered : (c : tie.Start) {k : ℕ} → c .args .call ≡ k → requestNumbered k (c .args .a) (c .args .b) ≡ requestNumbered (c .args .call) (c .args .a) (c .args .b)

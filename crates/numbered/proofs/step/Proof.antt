@@ -1,11 +1,11 @@
--- `exports::step` meets its contract. Assumes nothing.
+-- `numbered::step` meets its contract. Assumes nothing.
 use mathlib.Core.Path.{_∙_}
 use borrow.Author.Needs.{needs}
 use borrow.Author.Tests.{eq-eqb, ne-eqb}
 use Rattle.pump.proofs.Parts.{out-eq}
 use Rattle.sender.proofs.Refused.{unless-out, unless-in}
-use Rattle.exports.proofs.step.Statement.{statement}
-use Rattle.exports.proofs.step.Tie as tie
+use Rattle.numbered.proofs.step.Statement.{statement}
+use Rattle.numbered.proofs.step.Tie as tie
 
 entry : tie.Need-returns
 entry c = simp (eq-eqb _ _ (c .before .before .before .before .before .before .before .if1 .taken)) (c .before .before .before .before .next-entry .ensures)
