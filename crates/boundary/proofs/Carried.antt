@@ -8,7 +8,7 @@ use native.Mathlib.Omega.{arith}
 use borrow.Author.Tests.{le-ltb, ne-eqb, ltb-true, leb-true, eqb-true}
 use lib.Dec.{eqb, ltb, leb}
 use lib.ListN.{length}
-use Rattle.protocol.specs.Answers.{End}
+use Rattle.protocol.specs.Answers.{End, closed, error}
 use Rattle.protocol.specs.Bytes.{pick, bytesOf, put}
 use Rattle.protocol.specs.Calls.{v1, v2, Call, call, nextEntry, nextChunk}
 use Rattle.protocol.specs.Messages.{stat, sta2, list, lis2, recv, ask, rcv2, send, snd2, chunk, done, quit}
@@ -19,6 +19,7 @@ use Rattle.record.proofs.Numbers.{fields-wide}
 use Rattle.record.proofs.Stored.{stored-tail, loaded-stored}
 use Rattle.record.proofs.Words.{word-words}
 use Rattle.recv_buf.specs.RecvBuf.{cursor}
+use Rattle.session.specs.declared.Fault.{Fault}
 use Rattle.session.specs.declared.Pending.{Pending}
 use Rattle.session.specs.declared.Pending.the-variants.{Idle, Reading, Writing, Closing}
 use Rattle.session.specs.declared.Reply.{Reply}
@@ -27,8 +28,8 @@ use Rattle.session.specs.Core.{faultOf, showOf, begin, core}
 use Rattle.session.specs.Host.{Step, lentOf}
 use Rattle.session.specs.Reports.{refusalAt, readIn, readAt, reportRead, reportWrote, reportFault}
 use Rattle.session.specs.State.{St, st, Out, at}
-use Rattle.boundary.specs.Boundary.{callNumber, firstNumber, flagNumber, blank, stepOf, exported}
-use Rattle.boundary.specs.Crossing.{Crossed, crossed, isRefusal, back, crossing, requestNumbered, callNumbered, unknownCall, crossStart, staysAt, stays, crossRead, crossWrote, crossFault}
+use Rattle.boundary.specs.Boundary.{callNumber, firstNumber, flagNumber, endKind, endCode, blank, stepOf, exported}
+use Rattle.boundary.specs.Crossing.{Crossed, crossed, isRefusal, back, crossing, requestNumbered, callNumbered, unknownCall, crossStart, staysAt, stays, crossRead, crossWrote, faultNumbered, crossFault}
 use Rattle.boundary.specs.Told.{replyNumber, replyBytes}
 use Rattle.boundary.proofs.Heard.{heard-told}
 use Rattle.boundary.proofs.Steps.{Inv, narrow-of, Fine}
@@ -56,6 +57,11 @@ called s (call quit) = refl
 called s (nextEntry v1) = refl
 called s (nextEntry v2) = refl
 called s nextChunk = refl
+
+-- the fault that the numbers say
+faulted : (e : End) → faultNumbered (endKind e) (endCode e) ≡ faultOf e
+faulted closed = refl
+faulted (error c) = refl
 
 and-four : (a b c d : Bool) → a && b && c && d ≡ true → (a ≡ true) × (b ≡ true) × (c ≡ true) × (d ≡ true)
 and-four true true true true e = (refl, refl, refl, refl)
@@ -124,7 +130,10 @@ module _ (s : St) (x : Inv s) where
   pub fault-image : (lent : List ℕ) (e : End) → Fine (s .ses) (reportFault s (length lent) (faultOf e))
       → exported .onFault rec (s .rx) (s .msg) lent e ≡ image (reportFault s (length lent) (faultOf e))
   unfolding crossFault
-  fault-image lent e f = ap stepOf (loads _) ∙ back-image (reportFault s (length lent) (faultOf e)) f
+  fault-image lent e f =
+      ap stepOf (loads _)
+      ∙ ap (λ (g : Fault). stepOf (back rec blank (reportFault s (length lent) g))) (faulted e)
+      ∙ back-image (reportFault s (length lent) (faultOf e)) f
 
   -- what is put back of such a read
   abbrev tailed : ℕ → Reply → Step (List ℕ)

@@ -4,12 +4,11 @@ use Prim.Native.Nat.{ℕ}
 use mathlib.Core.List.{List, []}
 use mathlib.Core.Path.{_≡_}
 use lib.ListN.{length, replicate}
-use Rattle.protocol.specs.Answers.{End}
+use Rattle.protocol.specs.Answers.{End, closed, error}
 use Rattle.protocol.specs.Calls.{Version, v1, v2, Call, call, nextEntry, nextChunk}
 use Rattle.protocol.specs.Messages.{PathOnly, stat, sta2, list, lis2, recv, Request, ask, rcv2, send, snd2, chunk, done, quit}
 use Rattle.record.specs.Record.{wordOf, size}
 use Rattle.recv_buf.specs.RecvBuf.{cursor, heldBytes}
-use Rattle.session.specs.Core.{faultOf}
 use Rattle.session.specs.Demand3.{System, Opened}
 use Rattle.session.specs.Host.{Engine, Step, lentOf}
 use Rattle.boundary.specs.Crossing.{Crossed, OpenCrossed, crossOpen, crossStart, crossRead, crossWrote, crossFault}
@@ -58,6 +57,15 @@ flagNumber (call quit) = 0
 flagNumber (nextEntry v) = 0
 flagNumber nextChunk = 0
 
+-- the kind and the code of a fault
+abbrev pub endKind : End → ℕ
+endKind closed = 0
+endKind (error c) = 1
+
+abbrev pub endCode : End → ℕ
+endCode closed = 0
+endCode (error c) = c
+
 -- a slice for the reply
 abbrev pub blank : List ℕ
 blank = replicate outSize 0
@@ -71,7 +79,7 @@ exported =
       start = λ rec rx msg q. stepOf (crossStart rec rx msg (lentOf q) (callNumber q) (firstNumber q) (flagNumber q) blank);
       onRead = λ rec rx msg lent k. stepOf (crossRead rec rx msg lent k blank);
       onWrote = λ rec rx msg lent. stepOf (crossWrote rec rx msg lent blank);
-      onFault = λ rec rx msg lent e. stepOf (crossFault rec rx msg lent (faultOf e) blank);
+      onFault = λ rec rx msg lent e. stepOf (crossFault rec rx msg lent (endKind e) (endCode e) blank);
       holds = λ rec rx. heldBytes rx (cursor (wordOf rec 2) (wordOf rec 3));
     }
 

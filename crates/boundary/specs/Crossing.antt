@@ -21,6 +21,7 @@ use Rattle.session.specs.State.{St, st, Out, refusing}
 use Rattle.session.specs.declared.Answer.{Answer}
 use Rattle.session.specs.declared.Answer.the-variants as A
 use Rattle.session.specs.declared.Fault.{Fault}
+use Rattle.session.specs.declared.Fault.the-variants as F
 use Rattle.session.specs.declared.Pending.{Pending}
 use Rattle.session.specs.declared.Pending.the-variants.{Idle, Reading, Writing, Closing}
 use Rattle.session.specs.declared.Reply.{Reply}
@@ -142,5 +143,9 @@ crossRead rec rx msg lent k out = crossing rec rx msg out (λ s. backRead rec ou
 unfoldable pub crossWrote : (rec rx msg lent out : List ℕ) → Crossed
 crossWrote rec rx msg lent out = crossing rec rx msg out (λ s. back rec out (reportWrote s lent))
 
-unfoldable pub crossFault : (rec rx msg lent : List ℕ) → Fault → (out : List ℕ) → Crossed
-crossFault rec rx msg lent e out = crossing rec rx msg out (λ s. back rec out (reportFault s (length lent) e))
+-- kind 0 says that the channel is closed, any other an error with its code
+abbrev pub faultNumbered : (kind code : ℕ) → Fault
+faultNumbered kind code = pick (eqb kind 0) F.Closed (F.Error code)
+
+unfoldable pub crossFault : (rec rx msg lent : List ℕ) → (kind code : ℕ) → (out : List ℕ) → Crossed
+crossFault rec rx msg lent kind code out = crossing rec rx msg out (λ s. back rec out (reportFault s (length lent) (faultNumbered kind code)))

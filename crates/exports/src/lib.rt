@@ -1,7 +1,6 @@
 // The exported functions: a session in a lent record, both buffers, what is lent, and a slice for the reply.
 ghost use mathlib.Core.Path.{_≡_};
 ghost use Rattle.boundary.specs.Crossing.{crossed, crossOpen, crossStart, crossRead, crossWrote, crossFault};
-ghost use Rattle.numbered.specs.Numbered.{faultNumbered};
 ghost use Rattle.exports.specs.Crossed.{openCrossed, readAnew};
 use calls::Opened;
 use calls::open;
@@ -147,7 +146,7 @@ pub extern "C" fn yuglasno_fault(
     code: u32,
     out: &mut [u8],
 ) -> u32
-    ensures { λ r. ⌜ crossed (now (rec .exit)) (now (rx .exit)) (now (msg .exit)) (now (out .exit)) r ≡ crossFault (now (rec .entry)) (now (rx .entry)) (now (msg .entry)) (now (lent .entry)) (faultNumbered kind code) (now (out .entry)) ⌝ }
+    ensures { λ r. ⌜ crossed (now (rec .exit)) (now (rx .exit)) (now (msg .exit)) (now (out .exit)) r ≡ crossFault (now (rec .entry)) (now (rx .entry)) (now (msg .entry)) (now (lent .entry)) kind code (now (out .entry)) ⌝ }
 {
     if out.len() < 112 {
         return 768;

@@ -1,8 +1,8 @@
 // Calls and faults by the numbers that cross.
 ghost use mathlib.Core.Path.{_≡_};
-ghost use Rattle.boundary.specs.Crossing.{requestNumbered, callNumbered, stepNumbered, unknownCall};
+ghost use Rattle.boundary.specs.Crossing.{requestNumbered, callNumbered, stepNumbered, unknownCall, faultNumbered};
 ghost use Rattle.session.specs.State as S;
-ghost use Rattle.numbered.specs.Numbered.{asked, faultNumbered};
+ghost use Rattle.numbered.specs.Numbered.{asked};
 use calls::call_refusal;
 use calls::next_entry;
 use calls::recv_next;

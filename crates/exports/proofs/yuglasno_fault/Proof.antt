@@ -1,10 +1,9 @@
 -- `exports::yuglasno_fault` meets its contract. Assumes nothing.
 use borrow.Author.Needs.{needs}
 use denote.Ref.{now}
-use Rattle.boundary.specs.Crossing.{crossFault}
+use Rattle.boundary.specs.Crossing.{faultNumbered, crossFault}
 use lib.ListN.{length}
 use Rattle.session.specs.Reports.{reportFault}
-use Rattle.numbered.specs.Numbered.{faultNumbered}
 use Rattle.exports.proofs.Crossings.{cross-short, cross-unknown, cross-back, fault-eq}
 use Rattle.exports.proofs.yuglasno_fault.Statement.{statement}
 use Rattle.exports.proofs.yuglasno_fault.Tie as tie
