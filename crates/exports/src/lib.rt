@@ -18,6 +18,12 @@ use reports::read;
 use reports::wrote;
 use short_read::short_tail;
 
+// The longest reply: a slice shorter than it is turned away.
+const REPLY: usize = 112;
+
+// 3, told: that slice, or a record that holds no session.
+const AWAY: u32 = 768;
+
 // Opens a session in the record: 0, or 1 or 2, or 3 for a record of another length; a refusal leaves it alone.
 #[no_mangle]
 pub extern "C" fn yuglasno_open(rec: &mut [u8], banner: &[u8], rx: usize, msg: usize) -> u32
@@ -49,12 +55,12 @@ pub extern "C" fn yuglasno_start(
 ) -> u32
     ensures { λ r. ⌜ crossed (now (rec .exit)) (now (rx .exit)) (now (msg .exit)) (now (out .exit)) r ≡ crossStart (now (rec .entry)) (now (rx .entry)) (now (msg .entry)) (now (lent .entry)) call a b (now (out .entry)) ⌝ }
 {
-    if out.len() < 112 {
-        return 768;
+    if out.len() < REPLY {
+        return AWAY;
     }
     let loaded = load(rec);
     match loaded {
-        Loaded::Unknown => 768,
+        Loaded::Unknown => AWAY,
         Loaded::Session(s) => {
             let stepped = begin(s, rx, msg, call, a, b, lent);
             give_back(stepped, rec, out)
@@ -73,12 +79,12 @@ fn read_in(
 ) -> u32
     ensures { λ r. ⌜ crossed (now (rec .exit)) (now (rx .exit)) (now (msg .exit)) (now (out .exit)) r ≡ readAnew (now (rec .entry)) (now (rx .entry)) (now (msg .entry)) (now (lent .entry)) count (now (out .entry)) ⌝ }
 {
-    if out.len() < 112 {
-        return 768;
+    if out.len() < REPLY {
+        return AWAY;
     }
     let loaded = load(rec);
     match loaded {
-        Loaded::Unknown => 768,
+        Loaded::Unknown => AWAY,
         Loaded::Session(s) => {
             let stepped = read(s, rx, msg, lent.len(), count);
             give_back(stepped, rec, out)
@@ -102,7 +108,7 @@ pub extern "C" fn yuglasno_read(
     if tail == 0 {
         return read_in(rec, rx, msg, lent, count, out);
     }
-    if out.len() < 112 {
+    if out.len() < REPLY {
         return read_in(rec, rx, msg, lent, count, out);
     }
     let len = rx.len() - tail;
@@ -122,12 +128,12 @@ pub extern "C" fn yuglasno_wrote(
 ) -> u32
     ensures { λ r. ⌜ crossed (now (rec .exit)) (now (rx .exit)) (now (msg .exit)) (now (out .exit)) r ≡ crossWrote (now (rec .entry)) (now (rx .entry)) (now (msg .entry)) (now (lent .entry)) (now (out .entry)) ⌝ }
 {
-    if out.len() < 112 {
-        return 768;
+    if out.len() < REPLY {
+        return AWAY;
     }
     let loaded = load(rec);
     match loaded {
-        Loaded::Unknown => 768,
+        Loaded::Unknown => AWAY,
         Loaded::Session(s) => {
             let stepped = wrote(s, rx, msg, lent);
             give_back(stepped, rec, out)
@@ -148,12 +154,12 @@ pub extern "C" fn yuglasno_fault(
 ) -> u32
     ensures { λ r. ⌜ crossed (now (rec .exit)) (now (rx .exit)) (now (msg .exit)) (now (out .exit)) r ≡ crossFault (now (rec .entry)) (now (rx .entry)) (now (msg .entry)) (now (lent .entry)) kind code (now (out .entry)) ⌝ }
 {
-    if out.len() < 112 {
-        return 768;
+    if out.len() < REPLY {
+        return AWAY;
     }
     let loaded = load(rec);
     match loaded {
-        Loaded::Unknown => 768,
+        Loaded::Unknown => AWAY,
         Loaded::Session(s) => {
             let e = fault_of(kind, code);
             let stepped = fault(s, rx, msg, lent.len(), e);
