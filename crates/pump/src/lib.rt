@@ -6,6 +6,7 @@ ghost use lib.ListN.{length};
 ghost use Rattle.session.specs.Calls.{guarded};
 ghost use Rattle.session.specs.State.{st, out, half, Fits};
 ghost use Rattle.session.specs.Steps.{reading, asked, kept, hopOut, hopped, readOn, tidied};
+use cursor::taking;
 use format_number::put_bytes;
 use phases::turn_at;
 use phases::wants;
@@ -79,11 +80,10 @@ fn hop(s: Session, p: Phase, lost: bool, rx: &mut [u8], msg: &mut [u8]) -> Hop
         return Hop::Over(ask(s, p, lost, rx));
     }
     let from = buf.head;
-    let tail = buf.tail;
     let turn = turn_at(capacity, p, rx, from);
     keep_text(rx, from, turn.keeps, msg);
-    let head = from + turn.drops;
-    let next = s.at(RecvBuf { head, tail }, Pending::Idle);
+    let rest = taking(buf, turn.drops);
+    let next = s.at(rest, Pending::Idle);
     let then = turn.then;
     match then {
         Then::Stop(a) => Hop::Over(next.answering(a)),

@@ -4,10 +4,15 @@ use Prim.Native.Nat.{ℕ, _≤_}
 use native.Mathlib.Omega.{arith}
 use borrow.Author.Needs.{needs}
 use denote.Ref.{now}
+use Rattle.recv_buf.proofs.Laws.{taken-in}
+use Rattle.recv_buf.specs.RecvBuf as RB
 use Rattle.recv_buf.specs.RecvBuf.{heldCount}
+use Rattle.recv_buf.specs.declared.RecvBuf.{RecvBuf}
 use Rattle.session.specs.Phases.{wants}
-use Rattle.session.specs.State.{St, st, Good}
+use Rattle.session.specs.State.{St, st, at, Good}
 use Rattle.session.specs.Steps.{over, turnOf, turned, followed}
+use Rattle.session.specs.declared.Pending.the-variants.{Idle}
+use Rattle.session.specs.declared.Session.{Session}
 use Rattle.session.specs.declared.Turn.{Turn}
 use Rattle.phases.proofs.Turns.{turn-in, turn-drops, turn-keeps}
 use Rattle.pump.proofs.Hops.{hopped-large, hopped-asks, hopped-turns, turn-stops, turn-goes}
@@ -45,6 +50,10 @@ module _ (c : tie.After-turn-at) where
   keeps : c .turn-at .result .keeps ≤ wanted c
   keeps = rw taken (turn-keeps _ _ _ _)
 
+  -- the cursor moves as the turn says: what it drops is held
+  moves : (b : RecvBuf) (s : Session) → b ≡ RB.taken (from c .ses .buf) (c .turn-at .result .drops) → s ≡ at (from c .ses) b Idle → s ≡ turned (from c) (c .turn-at .result) .ses
+  moves b s e f = f ∙ ap (λ (z : RecvBuf). at (from c .ses) z Idle) (e ∙ taken-in _ _ (omega (arith, drops, held)))
+
 returns : tie.Need-returns
 returns c =
     let a = c .before .before .before .before .before .before .args in
@@ -67,17 +76,11 @@ keep-text-requires c κs =
     let g = c .before .before .before .before .before .before .before .before .before .before .before .pre in
     (omega (arith, g, keeps t, held t), omega (arith, g, keeps t, fits t))
 
-add-head : tie.Need-add-head
-add-head c =
-    let t = c .before .before .before .before .before .before in
-    let s = c .before .before .before .before .before .before .before .before .before .before .before .before .before .before .before in
-    omega (arith, s .pre, s .good .1 .1 .1 .0 .0, drops t, held t)
-
 returns-3 : tie.Need-returns-3
 returns-3 c =
     let t = c .before .before .before .before .before .before .before .before .before .before .before in
     let k = c .before .before .before .before .before .before .before .before .keep-text .ensures in
-    turn-stops (from t) (t .turn-at .result) _ _ (c .before .before .before .before .at .ensures) k _ _ (c .answering2 .ensures) (c .before .before .then .given .1)
+    turn-stops (from t) (t .turn-at .result) _ _ (moves t _ _ (c .before .before .before .before .before .taking .ensures) (c .before .before .before .before .at .ensures)) k _ _ (c .answering2 .ensures) (c .before .before .then .given .1)
     ∙ ap (λ (u : Turn). followed (turned (from t) u) (u .then)) (taken t)
     ∙ sym (hopped-turns (from t) _ _ (fits t) (held t))
 
@@ -85,7 +88,7 @@ returns-4 : tie.Need-returns-4
 returns-4 c =
     let t = c .before .before .before .before .before .before .before .before .before .before in
     let k = c .before .before .before .before .before .before .before .keep-text .ensures in
-    turn-goes (from t) (t .turn-at .result) _ _ (c .before .before .before .at .ensures) k _ (c .before .then2 .given .1)
+    turn-goes (from t) (t .turn-at .result) _ _ (moves t _ _ (c .before .before .before .before .taking .ensures) (c .before .before .before .at .ensures)) k _ (c .before .then2 .given .1)
     ∙ ap (λ (u : Turn). followed (turned (from t) u) (u .then)) (taken t)
     ∙ sym (hopped-turns (from t) _ _ (fits t) (held t))
 
@@ -102,7 +105,7 @@ hop-spec =
     returns-2
     (λ c κs. search needs)
     keep-text-requires
-    add-head
+    (λ c κs. search needs)
     (λ c κs. search needs)
     (λ c. search needs)
     (λ c κs. search needs)
