@@ -5,10 +5,10 @@ ghost use Prim.Native.Nat.{ℕ, _≤_};
 ghost use lib.Dec.{eqb};
 ghost use lib.ListN.{length};
 ghost use Rattle.protocol.specs.Bytes.{pick};
-ghost use Rattle.recv_buf.specs.RecvBuf.{cursor};
 ghost use Rattle.session.specs.Reports.{reportRefusal, readIn, reportRead, closedOut, reportWrote, faultAnswer, pushFault, quitFault, writeFault, reportFault};
 ghost use Rattle.session.specs.State.{st, out, at, answering, Fits};
 ghost use Rattle.session.specs.Steps.{readOn};
+use cursor::filling;
 use pump::read_on;
 use recv_buf::RecvBuf;
 use request::Request;
@@ -64,21 +64,19 @@ fn report_refusal(s: Session, rx: usize, msg: usize, lent: usize) -> u8
     }
 }
 
-// Reads on from a phase, with bytes held up to tail.
+// Reads on from a phase, with the held bytes where buf says.
 fn read_to(
     s: Session,
-    tail: usize,
+    buf: RecvBuf,
     phase: Phase,
     lost: bool,
     rx: &mut [u8],
     msg: &mut [u8],
 ) -> Stepped
-    requires { ⌜ Fits s (length (now rx)) (length (now msg)) × (s .buf .head ≤ tail) × (tail ≤ s .capacity) ⌝ }
-    ensures { λ r. ⌜ out r (now (rx .exit)) (now (msg .exit)) ≡ readOn (st (at s (cursor (s .buf .head) tail) Pending.Idle) (now (rx .entry)) (now (msg .entry))) phase lost ⌝ }
+    requires { ⌜ Fits s (length (now rx)) (length (now msg)) × (buf .head ≤ buf .tail) × (buf .tail ≤ s .capacity) ⌝ }
+    ensures { λ r. ⌜ out r (now (rx .exit)) (now (msg .exit)) ≡ readOn (st (at s buf Pending.Idle) (now (rx .entry)) (now (msg .entry))) phase lost ⌝ }
 {
-    let buf = s.buf;
-    let head = buf.head;
-    let session = s.at(RecvBuf { head, tail }, Pending::Idle);
+    let session = s.at(buf, Pending::Idle);
     read_on(session, phase, lost, rx, msg)
 }
 
@@ -98,28 +96,25 @@ fn read_in(
     if n == 0 {
         return s.refusing(Answer::Refused(11));
     }
-    let buf = s.buf;
-    let free = s.capacity - buf.tail;
+    let held = s.buf;
+    let free = s.capacity - held.tail;
     if free < n {
         return s.refusing(Answer::Refused(11));
     }
-    let tail = buf.tail + n;
+    let buf = filling(held, n, s.capacity);
+    let tail = buf.tail;
     if tail < until {
         if tail < s.capacity {
             let len = s.capacity - tail;
-            let head = buf.head;
-            let session = s.at(
-                RecvBuf { head, tail },
-                Pending::Reading { phase, until, lost },
-            );
+            let session = s.at(buf, Pending::Reading { phase, until, lost });
             return Stepped {
                 session,
                 reply: Reply::Read { at: tail, len },
             };
         }
-        return read_to(s, tail, phase, lost, rx, msg);
+        return read_to(s, buf, phase, lost, rx, msg);
     }
-    read_to(s, tail, phase, lost, rx, msg)
+    read_to(s, buf, phase, lost, rx, msg)
 }
 
 // n bytes were read into the window.

@@ -1,5 +1,4 @@
 -- `reports::read_to` meets its contract: with more bytes held, the session still fits its buffers. Assumes nothing.
-use Rattle.recv_buf.specs.RecvBuf.{cursor}
 use Rattle.session.proofs.Buf.{good-at}
 use Rattle.session.proofs.Misfit.{guarded-in}
 use Rattle.session.specs.Calls.{guarded}
@@ -15,10 +14,11 @@ use Rattle.reports.proofs.read_to.Tie as tie
 
 returns : tie.Need-returns
 returns c =
-    let a = c .before .before .before .before .before .before .before .before .before .before .before .args in
+    let o = c .before .before .before .before .before .before .before .before .before .before in
+    let a = o .args in
     c .before .before .before .before .read-on .ensures
     ∙ ap (λ (z : Session). guarded (st z (now (a .rx)) (now (a .msg))) (readOn (st z (now (a .rx)) (now (a .msg))) (a .phase) (a .lost))) (c .before .before .before .before .before .before .before .at .ensures)
-    ∙ guarded-in _ _ (good-at (st (a .s) (now (a .rx)) (now (a .msg))) (cursor (a .s .buf .head) (a .tail)) (now (a .rx)) (now (a .msg)) Idle (c .before .before .before .before .before .before .before .before .before .before .before .pre .0) (c .before .before .before .before .before .before .before .before .before .before .before .pre .1) (c .before .before .before .before .before .before .before .before .before .before .before .pre .2) refl refl)
+    ∙ guarded-in _ _ (good-at (st (a .s) (now (a .rx)) (now (a .msg))) (a .buf) (now (a .rx)) (now (a .msg)) Idle (o .pre .0) (o .pre .1) (o .pre .2) refl refl)
 
 pub read-to-spec : {M : Type 1} → statement M
 read-to-spec =
