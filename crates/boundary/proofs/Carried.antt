@@ -1,6 +1,6 @@
 -- The exported functions on a stored session are the core's steps on the session, and so the log of every list of calls is the core's.
 -- Assumes nothing.
-use Prim.Native.Nat.{ℕ, _+_, _-_, _<_}
+use Prim.Native.Nat.{ℕ, _+_, _-_, _≤_, _<_}
 use mathlib.Core.Bool.{Bool, true, false, true≢false, _&&_, and-eq-true-iff}
 use mathlib.Core.List.{List}
 use mathlib.Core.Path.{_≡_, refl, sym, ap, _∙_, subst}
@@ -14,6 +14,7 @@ use Rattle.protocol.specs.Calls.{v1, v2, Call, call, nextEntry, nextChunk}
 use Rattle.protocol.specs.Messages.{stat, sta2, list, lis2, recv, ask, rcv2, send, snd2, chunk, done, quit}
 use Rattle.protocol.proofs.Bodies.{pick-cases}
 use Rattle.record.specs.Fields.{fields}
+use Rattle.record.specs.Narrow.{Narrow}
 use Rattle.record.specs.Record.{stored}
 use Rattle.record.proofs.Numbers.{fields-wide}
 use Rattle.record.proofs.Stored.{stored-tail, loaded-stored}
@@ -29,8 +30,8 @@ use Rattle.session.specs.Host.{Step, lentOf}
 use Rattle.session.specs.Reports.{refusalAt, readIn, readAt, reportRead, reportWrote, reportFault}
 use Rattle.session.specs.State.{St, st, Out, at}
 use Rattle.boundary.specs.Boundary.{callNumber, firstNumber, flagNumber, endKind, endCode, blank, stepOf, exported}
-use Rattle.boundary.specs.Crossing.{Crossed, crossed, isRefusal, back, crossing, requestNumbered, callNumbered, unknownCall, crossStart, staysAt, stays, crossRead, crossWrote, faultNumbered, crossFault}
-use Rattle.boundary.specs.Told.{replyNumber, replyBytes}
+use Rattle.boundary.specs.Crossing.{Crossed, crossed, isRefusal, back, crossing, requestNumbered, callNumbered, unknownCall, crossStart, staysAt, stays, backRead, crossRead, crossWrote, faultNumbered, crossFault}
+use Rattle.boundary.specs.Told.{replyNumber, replyBytes, outSize}
 use Rattle.boundary.proofs.Heard.{heard-told}
 use Rattle.boundary.proofs.Steps.{Inv, narrow-of, Fine}
 
@@ -70,10 +71,22 @@ and-four true true false d e = absurd (true≢false (sym e))
 and-four true false c d e = absurd (true≢false (sym e))
 and-four false b c d e = absurd (true≢false (sym e))
 
--- ---- a read that leaves its need short
+-- ---- a step from a session that was stored, its reply in any slice that holds one
+
+pub loads : (s : St) → Narrow (s .ses) → (out : List ℕ) → outSize ≤ length out → (k : St → Crossed)
+    → crossing (stored (s .ses)) (s .rx) (s .msg) out k ≡ k s
+loads s n out room k = rw (le-ltb (length out) outSize room, loaded-stored (s .ses) n)
+
+-- what is put back, of a step that may be a refusal
+pub back-image : (s : St) (out : List ℕ) → outSize ≤ length out → (o : Out) → Fine (s .ses) o → stepOf (back (stored (s .ses)) out o) ≡ image o
+back-image s out room o f = rw (go (isRefusal (o .reply)) (f .same), heard-told out room (o .st .rx) (o .st .msg) (o .reply) (f .reply))
+  where
+    go : (b : Bool) → pick b (s .ses) (o .st .ses) ≡ o .st .ses → pick b (stored (s .ses)) (stored (o .st .ses)) ≡ stored (o .st .ses)
+    go true e = ap stored e
+    go false e = refl
 
 module _ (s : St) where
-  -- only tail moves
+  -- a read that leaves its need short: only tail moves
   abbrev pub stayed : ℕ → Out
   stayed t = record { st = st (at (s .ses) (cursor (s .ses .buf .head) t) (s .ses .pending)) (s .rx) (s .msg); reply = R.Read t (s .ses .capacity - t) }
 
@@ -96,7 +109,21 @@ module _ (s : St) where
       go (Writing q from piece) pend y = absurd (true≢false (sym y))
       go (Closing failed code) pend y = absurd (true≢false (sym y))
 
--- ---- one step, from a session that was stored
+  -- what is put back of such a read is what is put back of any step
+  pub read-back : (out : List ℕ) (n k : ℕ) → backRead (stored (s .ses)) out s n k ≡ back (stored (s .ses)) out (reportRead s n k)
+  unfolding replyNumber
+  read-back out n k =
+      pick-cases (λ y. y ≡ back (stored (s .ses)) out (reportRead s n k)) (stays s n k)
+      (λ e. subst (λ (o : Out). tailed (o .reply) ≡ back (stored (s .ses)) out o) (sym (stays-read n k e)) (rw (stored-tail (s .ses) t)))
+      (λ e. refl)
+    where
+      t : ℕ
+      t = s .ses .buf .tail + k
+
+      tailed : Reply → Crossed
+      tailed r = crossed (put (stored (s .ses)) 24 (bytesOf 8 t)) (s .rx) (s .msg) (put out 0 (replyBytes r)) 1
+
+-- ---- the exported functions
 
 module _ (s : St) (x : Inv s) where
   abbrev rec : List ℕ
@@ -108,53 +135,24 @@ module _ (s : St) (x : Inv s) where
       let w = word-words (fields (s .ses)) (fields-wide (s .ses) (narrow-of s x)) in
       rw (w 2, w 3)
 
-  loads : (k : St → Crossed) → crossing rec (s .rx) (s .msg) blank k ≡ k s
-  loads k = rw (loaded-stored (s .ses) (narrow-of s x))
-
-  -- what is put back, of a step that may be a refusal
-  back-image : (o : Out) → Fine (s .ses) o → stepOf (back rec blank o) ≡ image o
-  back-image o f = rw (go (isRefusal (o .reply)) (f .same), heard-told blank (omega arith) (o .st .rx) (o .st .msg) (o .reply) (f .reply))
-    where
-      go : (b : Bool) → pick b (s .ses) (o .st .ses) ≡ o .st .ses → pick b rec (stored (o .st .ses)) ≡ stored (o .st .ses)
-      go true e = ap stored e
-      go false e = refl
+  brings : (k : St → Crossed) (o : Out) → k s ≡ back rec blank o → Fine (s .ses) o → stepOf (crossing rec (s .rx) (s .msg) blank k) ≡ image o
+  brings k o e f = ap stepOf (loads s (narrow-of s x) blank (omega arith) k ∙ e) ∙ back-image s blank (omega arith) o f
 
   pub start-image : (q : Call) → Fine (s .ses) (begin s q) → exported .start rec (s .rx) (s .msg) q ≡ image (begin s q)
   unfolding crossStart
-  start-image q f = ap stepOf (loads _) ∙ ap (λ o. stepOf (back rec blank o)) (called s q) ∙ back-image (begin s q) f
+  start-image q f = brings _ (begin s q) (ap (back rec blank) (called s q)) f
 
   pub wrote-image : (lent : List ℕ) → Fine (s .ses) (reportWrote s lent) → exported .onWrote rec (s .rx) (s .msg) lent ≡ image (reportWrote s lent)
   unfolding crossWrote
-  wrote-image lent f = ap stepOf (loads _) ∙ back-image (reportWrote s lent) f
+  wrote-image lent f = brings _ (reportWrote s lent) refl f
 
   pub fault-image : (lent : List ℕ) (e : End) → Fine (s .ses) (reportFault s (length lent) (faultOf e))
       → exported .onFault rec (s .rx) (s .msg) lent e ≡ image (reportFault s (length lent) (faultOf e))
   unfolding crossFault
   fault-image lent e f =
-      ap stepOf (loads _)
-      ∙ ap (λ (g : Fault). stepOf (back rec blank (reportFault s (length lent) g))) (faulted e)
-      ∙ back-image (reportFault s (length lent) (faultOf e)) f
-
-  -- what is put back of such a read
-  abbrev tailed : ℕ → Reply → Step (List ℕ)
-  tailed t r = stepOf (crossed (put rec 24 (bytesOf 8 t)) (s .rx) (s .msg) (put blank 0 (replyBytes r)) 1)
-
-  stayed-image : (t : ℕ) → Fine (s .ses) (stayed s t) → tailed t ((stayed s t) .reply) ≡ image (stayed s t)
-  unfolding replyNumber
-  stayed-image t f = rw (stored-tail (s .ses) t, heard-told blank (omega arith) (s .rx) (s .msg) ((stayed s t) .reply) (f .reply))
+      brings _ (reportFault s (length lent) (faultOf e)) (ap (λ (g : Fault). back rec blank (reportFault s (length lent) g)) (faulted e)) f
 
   pub read-image : (lent : List ℕ) (k : ℕ) → Fine (s .ses) (reportRead s (length lent) k)
       → exported .onRead rec (s .rx) (s .msg) lent k ≡ image (reportRead s (length lent) k)
   unfolding crossRead
-  read-image lent k f =
-      ap stepOf (loads _)
-      ∙ pick-cases (λ y. stepOf y ≡ image o) (stays s (length lent) k)
-      (λ e. let r = stays-read s (length lent) k e in
-      subst (λ (y : Out). tailed t (y .reply) ≡ image y) (sym r) (stayed-image t (subst (Fine (s .ses)) r f)))
-      (λ e. back-image o f)
-    where
-      o : Out
-      o = reportRead s (length lent) k
-
-      t : ℕ
-      t = s .ses .buf .tail + k
+  read-image lent k f = brings _ (reportRead s (length lent) k) (read-back s blank (length lent) k) f

@@ -1,10 +1,10 @@
--- The calls and the reports keep the widths, whether they are refused or let in; a refusal leaves the session as it was.
+-- The calls and the reports keep the widths: those that are let in (`..-goes`), and all (`..-fine`); a refusal leaves the session as it was.
 -- Assumes nothing.
 use Prim.Native.Nat.{ℕ, zero, suc, _+_, _-_, _≤_}
-use mathlib.Core.Bool.{Bool, true, false, _&&_, not}
+use mathlib.Core.Bool.{Bool, true, false, true≢false, _&&_, _||_, not}
 use mathlib.Core.List.{List}
 use mathlib.Core.Option.{Option, none, some}
-use mathlib.Core.Path.{_≡_, refl, ap}
+use mathlib.Core.Path.{_≡_, refl, sym}
 use native.Mathlib.Omega.{arith}
 use borrow.Author.Tests.{ltb-false}
 use lib.Dec.{eqb, ltb}
@@ -34,12 +34,13 @@ use Rattle.session.specs.declared.Session.{Session}
 use Rattle.session.specs.declared.Version.{Version}
 use Rattle.session.specs.declared.Want.the-variants as W
 use Rattle.session.specs.Calls.{misfit, isIdle, callRefusal, unless, refusalOf, settingOf, answerOf, orRefuse, startCall, entryCall, chunkCall}
-use Rattle.session.specs.Reports.{reportRefusal, refusalAt, readIn, readAt, reportRead, closedOut, wroteAt, reportWrote, faultAnswer, pushFault, quitFault, writeFault, faultAt, reportFault}
-use Rattle.session.specs.State.{St, st, Out, out, at, begun, shut, refusing}
-use Rattle.session.specs.Steps.{tidied, carried}
+use Rattle.session.specs.Reports.{reportRefusal, refusalAt, refusedOut, readIn, readAt, reportRead, closedOut, wroteAt, reportWrote, faultAnswer, pushFault, quitFault, writeFault, faultAt, reportFault}
+use Rattle.session.specs.State.{St, st, Out, out, beside, at, begun, shut, refusing}
+use Rattle.session.specs.Steps.{readOn, tidied, carried, sent, told}
+use Rattle.session.proofs.Turns.{frameOf}
 use Rattle.boundary.specs.Crossing.{isRefusal}
 use Rattle.boundary.proofs.Narrow.{Plain, NarrowAnswer, Given}
-use Rattle.boundary.proofs.Steps.{Inv, Fine, inv-pending, inv-tidied, told-fine, pump-fine, sent-fine, closing-fine, carried-fits, wrote-on-fine}
+use Rattle.boundary.proofs.Steps.{Inv, Goes, Fine, fine, inv-pending, inv-tidied, idle, reads, told-goes, pump-goes, sent-goes, closing-goes, carried-fits, wrote-on-goes}
 
 -- ---- refusals
 
@@ -69,29 +70,31 @@ report-plain s x m n =
     (plain-pick (eqb n (s .lent)) (plain-pick (s .ended) (omega arith) (omega arith)) (omega arith)))
 
 -- 7 to 10
-data NarrowRefusal : Option P.Answer → Type 0 where
+pub data NarrowRefusal : Option P.Answer → Type 0 where
   lets : NarrowRefusal none
-  gives : {a : P.Answer} → NarrowAnswer (answerOf a) → NarrowRefusal (some a)
+  by-number : {n : ℕ} → Plain n → NarrowRefusal (some (P.refused n))
+  by-feature : {n : ℕ} → U64 n → NarrowRefusal (some (P.missing n))
 
 or-narrow : {a b : Option P.Answer} → NarrowRefusal a → NarrowRefusal b → NarrowRefusal (orElse a b)
 or-narrow lets y = y
-or-narrow (gives x) y = gives x
+or-narrow (by-number h) y = by-number h
+or-narrow (by-feature h) y = by-feature h
 
-refuse-narrow : (b : Bool) (a : P.Answer) → NarrowAnswer (answerOf a) → NarrowRefusal (refuse b a)
-refuse-narrow b a x = pick-cases NarrowRefusal b (λ e. gives x) (λ e. lets)
+refuse-narrow : {a : P.Answer} (b : Bool) → NarrowRefusal (some a) → NarrowRefusal (refuse b a)
+refuse-narrow b x = pick-cases NarrowRefusal b (λ e. x) (λ e. lets)
 
 feature-narrow : (fs : List Bool) (needed : Bool) (n : ℕ) → U64 n → NarrowRefusal (featureRefusal fs needed n)
 unfolding featureRefusal
 feature-narrow fs needed zero h = lets
-feature-narrow fs needed (suc n) h = refuse-narrow (needed && not (getD fs n false)) (P.missing (suc n)) h
+feature-narrow fs needed (suc n) h = refuse-narrow (needed && not (getD fs n false)) (by-feature h)
 
 path-narrow : (d : Dialect) (p : List ℕ) → NarrowRefusal (pathRefusal d p)
 unfolding pathRefusal
-path-narrow d p = or-narrow (refuse-narrow (ltb (d .longest) (length p)) (P.refused 7) (omega arith)) (refuse-narrow (has 0 p) (P.refused 8) (omega arith))
+path-narrow d p = or-narrow (refuse-narrow (ltb (d .longest) (length p)) (by-number (omega arith))) (refuse-narrow (has 0 p) (by-number (omega arith)))
 
 flag-narrow : (pull : Bool) (f : ℕ) → NarrowRefusal (flagRefusal pull f)
 unfolding flagRefusal
-flag-narrow pull f = refuse-narrow (refusedFlags pull f) (P.refused 9) (omega arith)
+flag-narrow pull f = refuse-narrow (refusedFlags pull f) (by-number (omega arith))
 
 transfer-narrow : (fs : List Bool) (f : ℕ) → NarrowRefusal (transferRefusal fs f)
 unfolding transferRefusal
@@ -108,7 +111,7 @@ ask-narrow fs M.list = lets
 ask-narrow fs M.lis2 = feature-narrow fs true 2 (omega arith)
 ask-narrow fs M.recv = lets
 
-request-narrow : (g : Setting) (q : M.Request) → NarrowRefusal (requestRefusal g q)
+pub request-narrow : (g : Setting) (q : M.Request) → NarrowRefusal (requestRefusal g q)
 unfolding requestRefusal
 request-narrow g (M.ask i p) = or-narrow (path-narrow (g .dialect) p) (ask-narrow (g .features) i)
 request-narrow g (M.rcv2 p f) = or-narrow (path-narrow (g .dialect) p) (or-narrow (flag-narrow true f) (transfer-narrow (g .features) f))
@@ -125,28 +128,40 @@ inv-begun s n x h = record { good = omega (arith, x .good); wide = x .wide; lent
 
 or-fine : {r : Option P.Answer} (s : St) (o : Out) → NarrowRefusal r → Inv s → Fine (s .ses) o → Fine (s .ses) (orRefuse r s o)
 or-fine s o lets x f = f
-or-fine s o (gives {a = a} n) x f = refused-fine s (answerOf a) x n
+or-fine s o (by-number {n = n} h) x f = refused-fine s (A.Refused n) x h
+or-fine s o (by-feature {n = n} h) x f = refused-fine s (A.Missing n) x h
 
 module _ (s : St) (x : Inv s) where
+  -- n bytes are lent
+  abbrev begins : ℕ → St
+  begins n = st (begun (s .ses) n) (s .rx) (s .msg)
+
+  pub start-goes : (q : Request) (lent : List ℕ) → NarrowRequest q → U64 (length lent)
+      → Goes (frameOf (begun (s .ses) (length lent))) (beside (sent (begun (s .ses) (length lent)) (s .rx) q 0 (carried q 0 lent)) (s .msg))
+  start-goes q lent r h =
+      sent-goes (begins (length lent)) q 0 (carried q 0 lent) (inv-begun s (length lent) x h) r (omega arith) (carried-fits s 0 lent x (omega arith) h q)
+
+  pub entry-goes : (v : Version) (n : ℕ) → U64 n → Goes (frameOf (begun (s .ses) n)) (readOn (begins n) (Header (W.Entry v)) false)
+  entry-goes v n h = pump-goes 4 (begins n) (Header (W.Entry v)) false (inv-begun s n x h) tt
+
+  pub chunk-goes : (n : ℕ) → U64 n → Goes (frameOf (begun (s .ses) n)) (readOn (tidied (begins n)) (Header W.Chunk) false)
+  chunk-goes n h = pump-goes 4 (tidied (begins n)) (Header W.Chunk) false (inv-tidied _ (inv-begun s n x h)) tt
+
+  let-in-fine : (o : Out) → Fine (s .ses) o → Fine (s .ses) (unless (refusalOf s) s o)
+  let-in-fine o f = unless-fine s (refusalOf s) o x (call-plain (s .ses) (length (s .rx)) (length (s .msg))) f
+
   pub start-fine : (q : Request) (lent : List ℕ) → NarrowRequest q → U64 (length lent) → Fine (s .ses) (startCall s q lent)
   unfolding startCall
   start-fine q lent r h =
-      unless-fine s (refusalOf s) _ x (call-plain (s .ses) (length (s .rx)) (length (s .msg)))
-      (or-fine s _ (request-narrow (settingOf (s .ses)) (meant q lent)) x
-      (sent-fine (s .ses) (st (begun (s .ses) (length lent)) (s .rx) (s .msg)) q 0 (carried q 0 lent) (inv-begun s (length lent) x h) r (omega arith)
-      (carried-fits (s .ses) s 0 lent x (omega arith) h q)))
+      let-in-fine _ (or-fine s _ (request-narrow (settingOf (s .ses)) (meant q lent)) x (fine (s .ses) (start-goes q lent r h)))
 
   pub entry-fine : (v : Version) (n : ℕ) → U64 n → Fine (s .ses) (entryCall s v n)
   unfolding entryCall
-  entry-fine v n h =
-      unless-fine s (refusalOf s) _ x (call-plain (s .ses) (length (s .rx)) (length (s .msg)))
-      (pump-fine (s .ses) 4 (st (begun (s .ses) n) (s .rx) (s .msg)) (Header (W.Entry v)) false (inv-begun s n x h) tt)
+  entry-fine v n h = let-in-fine _ (fine (s .ses) (entry-goes v n h))
 
   pub chunk-fine : (n : ℕ) → U64 n → Fine (s .ses) (chunkCall s n)
   unfolding chunkCall
-  chunk-fine n h =
-      unless-fine s (refusalOf s) _ x (call-plain (s .ses) (length (s .rx)) (length (s .msg)))
-      (pump-fine (s .ses) 4 (tidied (st (begun (s .ses) n) (s .rx) (s .msg))) (Header W.Chunk) false (inv-tidied _ (inv-begun s n x h)) tt)
+  chunk-fine n h = let-in-fine _ (fine (s .ses) (chunk-goes n h))
 
 -- ---- the reports
 
@@ -158,7 +173,29 @@ fault-given : (e : Fault) → NarrowFault e → Given (faultAnswer e)
 fault-given F.Closed n = (tt, refl)
 fault-given (F.Error c) n = (n, refl)
 
+pub neither : (b c : Bool) → (b || c) ≡ false → (b ≡ false) × (c ≡ false)
+neither false false e = (refl, refl)
+neither false true e = absurd (true≢false e)
+neither true c e = absurd (true≢false e)
+
+-- a read of no bytes, or beyond the window
+module _ (s : St) (p : Phase) (until : ℕ) (lost : Bool) (k : ℕ) (e : (eqb k 0 || ltb (s .ses .capacity - s .ses .buf .tail) k) ≡ true) where
+  pub read-in-refused : readIn s p until lost k ≡ refusedOut s 11
+  unfolding readIn
+  read-in-refused = go (eqb k 0) (ltb (s .ses .capacity - s .ses .buf .tail) k) _ e
+    where
+      go : (b c : Bool) (o : Out) → (b || c) ≡ true → pick b (refusedOut s 11) (pick c (refusedOut s 11) o) ≡ refusedOut s 11
+      go true c o z = refl
+      go false true o z = refl
+      go false false o z = absurd (true≢false (sym z))
+
 module _ (s : St) (x : Inv s) where
+  let-on-fine : (n : ℕ) (o : Out) → Fine (s .ses) o → Fine (s .ses) (unless (refusalAt s n) s o)
+  let-on-fine n o f = unless-fine s (refusalAt s n) o x (report-plain (s .ses) (length (s .rx)) (length (s .msg)) n) f
+
+  misplaced : Fine (s .ses) (refusedOut s 5)
+  misplaced = refused-fine s (A.Refused 5) x (omega arith)
+
   -- k bytes came: so many more are held
   module _ (k : ℕ) (more : Bytes (heldBytes (s .rx) (cursor (s .ses .buf .head) (s .ses .buf .tail + k)))) where
     abbrev came : St
@@ -167,84 +204,95 @@ module _ (s : St) (x : Inv s) where
     inv-came : k ≤ s .ses .capacity - s .ses .buf .tail → Inv came
     inv-came h = record { good = omega (arith, x .good); wide = x .wide; lent = x .lent; pending = tt; bytes = more }
 
-    read-in-fine : (p : Phase) (until : ℕ) (lost : Bool) → NarrowPhase p → U64 until → Fine (s .ses) (readIn s p until lost k)
+    pub read-in-goes : (p : Phase) (until : ℕ) (lost : Bool) → NarrowPhase p → U64 until
+        → (eqb k 0 || ltb (s .ses .capacity - s .ses .buf .tail) k) ≡ false → Goes (frameOf (s .ses)) (readIn s p until lost k)
     unfolding readIn
-    read-in-fine p until lost n u =
-        pick-cases (Fine (s .ses)) (eqb k 0) (λ e. refused-fine s (A.Refused 11) x (omega arith))
-        (λ e. pick-cases (Fine (s .ses)) (ltb (s .ses .capacity - s .ses .buf .tail) k) (λ f. refused-fine s (A.Refused 11) x (omega arith))
-        (λ f. let y : Inv came = inv-came (ltb-false _ _ f) in
-        pick-cases (Fine (s .ses)) (ltb (s .ses .buf .tail + k) until)
-        (λ g. pick-cases (Fine (s .ses)) (ltb (s .ses .buf .tail + k) (s .ses .capacity))
-        (λ h. record { inv = inv-pending came _ y (n, u); reply = omega (arith, y .good); window = refl; same = refl })
-        (λ h. pump-fine (s .ses) 4 came p lost y n))
-        (λ g. pump-fine (s .ses) 4 came p lost y n)))
+    read-in-goes p until lost n u e =
+        let (a, b) = neither (eqb k 0) (ltb (s .ses .capacity - s .ses .buf .tail) k) e in
+        let y : Inv came = inv-came (ltb-false _ _ b) in
+        rw (a, b)
+        (pick-cases (Goes (frameOf (s .ses))) (ltb (s .ses .buf .tail + k) until)
+        (λ g. pick-cases (Goes (frameOf (s .ses))) (ltb (s .ses .buf .tail + k) (s .ses .capacity))
+        (λ h. record { inv = inv-pending came _ y (n, u); reply = omega (arith, y .good); given = refl; frame = refl; asked = reads })
+        (λ h. pump-goes 4 came p lost y n))
+        (λ g. pump-goes 4 came p lost y n))
+
+    read-in-fine : (p : Phase) (until : ℕ) (lost : Bool) → NarrowPhase p → U64 until → Fine (s .ses) (readIn s p until lost k)
+    read-in-fine p until lost n u = go (eqb k 0 || ltb (s .ses .capacity - s .ses .buf .tail) k) refl
+      where
+        go : (b : Bool) → (eqb k 0 || ltb (s .ses .capacity - s .ses .buf .tail) k) ≡ b → Fine (s .ses) (readIn s p until lost k)
+        go true e = rw (read-in-refused s p until lost k e) (refused-fine s (A.Refused 11) x (omega arith))
+        go false e = fine (s .ses) (read-in-goes p until lost n u e)
 
     read-at-fine : (p : Pending) → NarrowPending p → Fine (s .ses) (readAt p s k)
     unfolding readAt
-    read-at-fine Idle n = refused-fine s (A.Refused 5) x (omega arith)
+    read-at-fine Idle n = misplaced
     read-at-fine (Reading p until lost) n = read-in-fine p until lost (n .0) (n .1)
-    read-at-fine (Writing q from piece) n = refused-fine s (A.Refused 5) x (omega arith)
-    read-at-fine (Closing failed code) n = refused-fine s (A.Refused 5) x (omega arith)
+    read-at-fine (Writing q from piece) n = misplaced
+    read-at-fine (Closing failed code) n = misplaced
 
     pub read-fine : (n : ℕ) → Fine (s .ses) (reportRead s n k)
     unfolding reportRead
-    read-fine n =
-        unless-fine s (refusalAt s n) _ x (report-plain (s .ses) (length (s .rx)) (length (s .msg)) n) (read-at-fine (s .ses .pending) (x .pending))
+    read-fine n = let-on-fine n _ (read-at-fine (s .ses .pending) (x .pending))
 
-  closed-fine : (failed : Bool) (code : ℕ) (a : Answer) → U32 code → Given a → Fine (s .ses) (closedOut s failed code a)
-  closed-fine failed code a n g =
+  pub closed-goes : (failed : Bool) (code : ℕ) (a : Answer) → U32 code → Given a → Goes (frameOf (shut (s .ses))) (closedOut s failed code a)
+  closed-goes failed code a n g =
       let z : Given (pick failed (A.Error code) a) = pick-cases Given failed (λ e. (n, refl)) (λ e. g) in
       record {
         inv = record { good = omega (arith, x .good); wide = x .wide; lent = x .lent; pending = tt; bytes = x .bytes };
         reply = z .0;
-        window = tt;
-        same = ap (λ (b : Bool). pick b (s .ses) (shut (s .ses))) (z .1);
+        given = z .1;
+        frame = refl;
+        asked = idle;
       }
 
   wrote-at-fine : (p : Pending) (lent : List ℕ) → NarrowPending p → U64 (length lent) → Fine (s .ses) (wroteAt p s lent)
   unfolding wroteAt
-  wrote-at-fine Idle lent n h = refused-fine s (A.Refused 5) x (omega arith)
-  wrote-at-fine (Reading p until lost) lent n h = refused-fine s (A.Refused 5) x (omega arith)
-  wrote-at-fine (Writing q from piece) lent n h = wrote-on-fine (s .ses) s from lent x (n .1 .0) h q piece (n .0)
-  wrote-at-fine (Closing failed code) lent n h = closed-fine failed code A.Done n (tt, refl)
+  wrote-at-fine Idle lent n h = misplaced
+  wrote-at-fine (Reading p until lost) lent n h = misplaced
+  wrote-at-fine (Writing q from piece) lent n h = fine (s .ses) (wrote-on-goes s from lent x (n .1 .0) h q piece (n .0))
+  wrote-at-fine (Closing failed code) lent n h = fine (s .ses) (closed-goes failed code A.Done n (tt, refl))
 
   pub wrote-fine : (lent : List ℕ) → U64 (length lent) → Fine (s .ses) (reportWrote s lent)
   unfolding reportWrote
-  wrote-fine lent h =
-      unless-fine s (refusalAt s (length lent)) _ x (report-plain (s .ses) (length (s .rx)) (length (s .msg)) (length lent))
-      (wrote-at-fine (s .ses .pending) lent (x .pending) h)
+  wrote-fine lent h = let-on-fine (length lent) _ (wrote-at-fine (s .ses .pending) lent (x .pending) h)
 
-  push-fine : (e : Fault) → NarrowFault e → Fine (s .ses) (pushFault s e)
-  push-fine F.Closed c = pump-fine (s .ses) 4 s (Header W.Nothing) true x tt
-  push-fine (F.Error n) c = told-fine (s .ses) s (A.Error n) x (c, refl)
+  push-goes : (e : Fault) → NarrowFault e → Goes (frameOf (s .ses)) (pushFault s e)
+  push-goes F.Closed c = pump-goes 4 s (Header W.Nothing) true x tt
+  push-goes (F.Error n) c = told-goes s (A.Error n) x (c, refl)
 
-  quit-fine : (e : Fault) → NarrowFault e → Fine (s .ses) (quitFault s e)
-  quit-fine F.Closed c = closing-fine (s .ses) s false 0 x (omega arith)
-  quit-fine (F.Error n) c = closing-fine (s .ses) s true n x c
+  quit-goes : (e : Fault) → NarrowFault e → Goes (frameOf (s .ses)) (quitFault s e)
+  quit-goes F.Closed c = closing-goes s false 0 x (omega arith)
+  quit-goes (F.Error n) c = closing-goes s true n x c
 
   module _ (e : Fault) (c : NarrowFault e) where
-    write-fault-fine : (q : Request) → Fine (s .ses) (writeFault s q e)
+    pub write-fault-goes : (q : Request) → Goes (frameOf (s .ses)) (writeFault s q e)
     unfolding writeFault
-    write-fault-fine Q.Stat = told-fine (s .ses) s (faultAnswer e) x (fault-given e c)
-    write-fault-fine Q.Sta2 = told-fine (s .ses) s (faultAnswer e) x (fault-given e c)
-    write-fault-fine Q.List = told-fine (s .ses) s (faultAnswer e) x (fault-given e c)
-    write-fault-fine Q.Lis2 = told-fine (s .ses) s (faultAnswer e) x (fault-given e c)
-    write-fault-fine Q.Recv = told-fine (s .ses) s (faultAnswer e) x (fault-given e c)
-    write-fault-fine (Q.Rcv2 f) = told-fine (s .ses) s (faultAnswer e) x (fault-given e c)
-    write-fault-fine (Q.Send m) = push-fine e c
-    write-fault-fine (Q.Snd2 m f) = push-fine e c
-    write-fault-fine Q.Data = push-fine e c
-    write-fault-fine (Q.Done t) = push-fine e c
-    write-fault-fine Q.Quit = quit-fine e c
+    write-fault-goes Q.Stat = told-goes s (faultAnswer e) x (fault-given e c)
+    write-fault-goes Q.Sta2 = told-goes s (faultAnswer e) x (fault-given e c)
+    write-fault-goes Q.List = told-goes s (faultAnswer e) x (fault-given e c)
+    write-fault-goes Q.Lis2 = told-goes s (faultAnswer e) x (fault-given e c)
+    write-fault-goes Q.Recv = told-goes s (faultAnswer e) x (fault-given e c)
+    write-fault-goes (Q.Rcv2 f) = told-goes s (faultAnswer e) x (fault-given e c)
+    write-fault-goes (Q.Send m) = push-goes e c
+    write-fault-goes (Q.Snd2 m f) = push-goes e c
+    write-fault-goes Q.Data = push-goes e c
+    write-fault-goes (Q.Done t) = push-goes e c
+    write-fault-goes Q.Quit = quit-goes e c
+
+    pub read-fault-goes : (lost : Bool) → Goes (frameOf (s .ses)) (told s (pick lost A.Closed (faultAnswer e)))
+    read-fault-goes lost = told-goes s _ x (pick-cases Given lost (λ z. (tt, refl)) (λ z. fault-given e c))
+
+    pub close-fault-goes : (failed : Bool) (code : ℕ) → U32 code → Goes (frameOf (shut (s .ses))) (closedOut s failed code (faultAnswer e))
+    close-fault-goes failed code n = closed-goes failed code (faultAnswer e) n (fault-given e c)
 
     fault-at-fine : (p : Pending) → NarrowPending p → Fine (s .ses) (faultAt p s e)
     unfolding faultAt
-    fault-at-fine Idle n = refused-fine s (A.Refused 5) x (omega arith)
-    fault-at-fine (Reading p until lost) n = told-fine (s .ses) s _ x (pick-cases Given lost (λ z. (tt, refl)) (λ z. fault-given e c))
-    fault-at-fine (Writing q from piece) n = write-fault-fine q
-    fault-at-fine (Closing failed code) n = closed-fine failed code (faultAnswer e) n (fault-given e c)
+    fault-at-fine Idle n = misplaced
+    fault-at-fine (Reading p until lost) n = fine (s .ses) (read-fault-goes lost)
+    fault-at-fine (Writing q from piece) n = fine (s .ses) (write-fault-goes q)
+    fault-at-fine (Closing failed code) n = fine (s .ses) (close-fault-goes failed code n)
 
     pub fault-fine : (n : ℕ) → Fine (s .ses) (reportFault s n e)
     unfolding reportFault
-    fault-fine n =
-        unless-fine s (refusalAt s n) _ x (report-plain (s .ses) (length (s .rx)) (length (s .msg)) n) (fault-at-fine (s .ses .pending) (x .pending))
+    fault-fine n = let-on-fine n _ (fault-at-fine (s .ses .pending) (x .pending))

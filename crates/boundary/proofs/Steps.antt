@@ -1,7 +1,7 @@
 -- What a session does between two reports keeps the widths: from a session whose numbers fit their fields and whose held bytes are bytes it
--- leaves such a session, and a reply whose numbers fit theirs. A read is asked at tail.
+-- leaves such a session, and a reply whose numbers fit theirs. What is pending then is what the reply asks for; a read is asked at tail.
 -- Assumes nothing.
-use Prim.Native.Nat.{ℕ, zero, suc, _+_, _≤_, _<_, _^_}
+use Prim.Native.Nat.{ℕ, zero, suc, _+_, _-_, _≤_, _<_, _^_}
 use mathlib.Core.Bool.{Bool, true, false, true≢false}
 use mathlib.Core.List.{List, [], _∷_}
 use mathlib.Core.Path.{_≡_, refl, sym, ap, subst}
@@ -9,6 +9,7 @@ use native.Mathlib.Omega.{arith}
 use borrow.Author.Tests.{ltb-false, leb-true}
 use lib.Dec.{eqb, ltb, leb}
 use lib.ListN.{length, getD, take, drop, length-take, length-drop}
+use Rattle.protocol.specs.Answers as Paper
 use Rattle.protocol.specs.Bytes.{Bytes, pick, over, put}
 use Rattle.protocol.specs.Ids.{published}
 use Rattle.protocol.specs.Messages.{bytesOfRequest, dataMost}
@@ -27,7 +28,7 @@ use Rattle.request.specs.declared.Request.the-variants as Q
 use Rattle.session.specs.declared.Answer.{Answer}
 use Rattle.session.specs.declared.Answer.the-variants as A
 use Rattle.session.specs.declared.Pending.{Pending}
-use Rattle.session.specs.declared.Pending.the-variants.{Idle, Writing}
+use Rattle.session.specs.declared.Pending.the-variants.{Idle, Reading, Writing, Closing}
 use Rattle.session.specs.declared.Phase.{Phase}
 use Rattle.session.specs.declared.Phase.the-variants.{Header}
 use Rattle.session.specs.declared.Reply.{Reply}
@@ -37,11 +38,14 @@ use Rattle.session.specs.declared.Then.{Then}
 use Rattle.session.specs.declared.Then.the-variants.{Stop, Go}
 use Rattle.session.specs.declared.Version.the-variants.{V1, V2}
 use Rattle.session.specs.declared.Want.the-variants as W
+use Rattle.session.specs.Core.{showOf}
+use Rattle.session.specs.Host.{Show, read, writeRx, writeLent, writeBytes, close}
+use Rattle.session.specs.Host as H
 use Rattle.session.specs.Phases.{wants}
 use Rattle.session.specs.State.{St, st, Out, out, half, beside, stepped, at, Good}
 use Rattle.session.specs.Steps.{reading, asked, onHop, turned, followed, turnOf, hopped, pumped, tidied, isData, carried, pieceReply, sendPiece, messageOut, sent, told, closingOut, resumed, isEnd, wroteOn}
 use Rattle.session.proofs.Buf.{sound-of, good-at, good-tidied, held-tidied, held-dropped, kept-length, view}
-use Rattle.session.proofs.Turns.{held}
+use Rattle.session.proofs.Turns.{held, Frame, frameOf}
 use Rattle.session.proofs.Writes.{Sent, pieces-sent}
 use Rattle.boundary.specs.Crossing.{isRefusal}
 use Rattle.boundary.proofs.Narrow.{NarrowPiece, NarrowReply, Given, NarrowThen, Fit, turn-fit, wants-below}
@@ -60,6 +64,27 @@ pub narrow-of : (s : St) → Inv s → Narrow (s .ses)
 narrow-of s x =
     record { capacity = omega (arith, x .good); message = omega arith; head = omega (arith, x .good); tail = omega (arith, x .good); lent = x .lent; pending = x .pending }
 
+-- What is pending is what was asked; a read is asked at t, for w bytes.
+pub data Awaits (t w : ℕ) : Pending → Show → Type 0 where
+  idle : {a : Paper.Answer} → Awaits t w Idle (H.told a)
+  reads : {p : Phase} {until : ℕ} {lost : Bool} → Awaits t w (Reading p until lost) (read t w)
+  writes-rx : {q : Request} {from k i n : ℕ} → Awaits t w (Writing q from k) (writeRx i n)
+  writes-lent : {q : Request} {from k i n : ℕ} → Awaits t w (Writing q from k) (writeLent i n)
+  writes-bytes : {q : Request} {from k : ℕ} {b : List ℕ} → Awaits t w (Writing q from k) (writeBytes b)
+  closes : {failed : Bool} {code : ℕ} → Awaits t w (Closing failed code) close
+
+-- .. at tail, for the rest of the buffer
+abbrev pub Asked : Session → Show → Type 0
+Asked s sh = Awaits (s .buf .tail) (s .capacity - s .buf .tail) (s .pending) sh
+
+-- what a step leaves that is not refused; φ is what it keeps
+pub record Goes (φ : Frame) (o : Out) : Type 0 where
+  pub inv : Inv (o .st)
+  pub reply : NarrowReply (o .reply)
+  pub given : isRefusal (o .reply) ≡ false
+  pub frame : frameOf (o .st .ses) ≡ φ
+  pub asked : Asked (o .st .ses) (showOf (o .st .rx) (o .st .msg) (o .reply))
+
 -- a read is asked at tail
 abbrev Window : Session → Reply → Type 0
 Window s (R.Told a) = Unit {0}
@@ -69,12 +94,32 @@ Window s (R.WriteLent i n) = Unit {0}
 Window s (R.WriteBytes p) = Unit {0}
 Window s R.Close = Unit {0}
 
--- what a step that began with the session s₀ leaves
+-- what a step that began with the session s₀ leaves, refused or not
 pub record Fine (s₀ : Session) (o : Out) : Type 0 where
   pub inv : Inv (o .st)
   pub reply : NarrowReply (o .reply)
   pub window : Window (o .st .ses) (o .reply)
   pub same : pick (isRefusal (o .reply)) s₀ (o .st .ses) ≡ o .st .ses
+
+read-at : {t w i n : ℕ} {p : Pending} → Awaits t w p (read i n) → i ≡ t
+read-at reads = refl
+
+asked-window : (s : Session) (rx msg : List ℕ) (r : Reply) → Asked s (showOf rx msg r) → Window s r
+asked-window s rx msg (R.Told a) h = tt
+asked-window s rx msg (R.Read i n) h = read-at h
+asked-window s rx msg (R.WriteRx i n) h = tt
+asked-window s rx msg (R.WriteLent i n) h = tt
+asked-window s rx msg (R.WriteBytes p) h = tt
+asked-window s rx msg R.Close h = tt
+
+pub fine : {φ : Frame} {o : Out} (s₀ : Session) → Goes φ o → Fine s₀ o
+fine {o = o} s₀ g =
+    record {
+      inv = g .inv;
+      reply = g .reply;
+      window = asked-window (o .st .ses) (o .st .rx) (o .st .msg) (o .reply) (g .asked);
+      same = ap (λ (b : Bool). pick b s₀ (o .st .ses)) (g .given);
+    }
 
 pub inv-pending : (s : St) (p : Pending) → Inv s → NarrowPending p → Inv (st (at (s .ses) (s .ses .buf) p) (s .rx) (s .msg))
 inv-pending s p x n = record { good = omega (arith, x .good); wide = x .wide; lent = x .lent; pending = n; bytes = x .bytes }
@@ -129,169 +174,169 @@ piece-early q n k e = go (pieceList q n) 5 k (pieces-sent q n) e
     go (p ∷ l) (suc m) zero h e = omega arith
     go (p ∷ l) (suc m) (suc k) h e = omega (arith, go l m k (h .1) e)
 
-module _ (s₀ : Session) where
-  -- ---- reading
+-- ---- reading
 
-  reading-fine : (s : St) (p : Phase) (lost : Bool) → Inv s → NarrowPhase p
-      → Fine s₀ (beside (half (reading (s .ses) (s .ses .buf .head) (s .ses .buf .tail) p lost) (s .rx)) (s .msg))
-  reading-fine s p lost x n =
+reading-goes : (s : St) (p : Phase) (lost : Bool) → Inv s → NarrowPhase p
+    → Goes (frameOf (s .ses)) (beside (half (reading (s .ses) (s .ses .buf .head) (s .ses .buf .tail) p lost) (s .rx)) (s .msg))
+reading-goes s p lost x n =
+    let g = x .good in
+    let w = wants-below (s .ses .capacity) p n (omega arith) in
+    record { inv = inv-pending s _ x (n, omega arith); reply = omega arith; given = refl; frame = refl; asked = reads }
+
+asked-goes : (s : St) (p : Phase) (lost : Bool) → Inv s → NarrowPhase p → Goes (frameOf (s .ses)) (beside (asked (s .ses) (s .rx) p lost) (s .msg))
+unfolding asked
+asked-goes s p lost x n =
+    pick-cases (λ h. Goes (frameOf (s .ses)) (beside h (s .msg))) (ltb (s .ses .buf .tail) (s .ses .capacity))
+    (λ e. reading-goes s p lost x n) (λ e. reading-goes (tidied s) p lost (inv-tidied s x) n)
+
+pub told-goes : (s : St) (a : Answer) → Inv s → Given a → Goes (frameOf (s .ses)) (told s a)
+told-goes s a x g =
+    record { inv = inv-pending s Idle x tt; reply = g .0; given = g .1; frame = refl; asked = idle }
+
+module _ (s : St) (p : Phase) (x : Inv s) (n : NarrowPhase p) (l : wants (s .ses .capacity) p ≤ heldCount (s .ses .buf)) where
+  fit : Fit (s .ses .capacity) p (turnOf s p)
+  fit =
       let g = x .good in
-      let w = wants-below (s .ses .capacity) p n (omega arith) in
-      record { inv = inv-pending s _ x (n, omega arith); reply = omega arith; window = refl; same = refl }
+      turn-fit (s .ses .capacity) (s .rx) (s .ses .buf .head) (omega arith) (omega arith) p n (omega arith)
+      (subst Bytes (view s g (wants (s .ses .capacity) p) l) (bytes-take (wants (s .ses .capacity) p) (held s) (x .bytes)))
 
-  asked-fine : (s : St) (p : Phase) (lost : Bool) → Inv s → NarrowPhase p → Fine s₀ (beside (asked (s .ses) (s .rx) p lost) (s .msg))
-  unfolding asked
-  asked-fine s p lost x n =
-      pick-cases (λ h. Fine s₀ (beside h (s .msg))) (ltb (s .ses .buf .tail) (s .ses .capacity))
-      (λ e. reading-fine s p lost x n) (λ e. reading-fine (tidied s) p lost (inv-tidied s x) n)
+  inv-turned : Inv (turned s (turnOf s p))
+  inv-turned =
+      let g = x .good in
+      let d = fit .drops in
+      let k = fit .keeps in
+      record {
+        good = good-at s _ (s .rx) ((turned s (turnOf s p)) .msg) Idle g (omega arith) (g .inside) refl
+            (kept-length (s .rx) (s .msg) (s .ses .buf .head) ((turnOf s p) .keeps) (omega arith) (omega arith));
+        wide = x .wide;
+        lent = x .lent;
+        pending = tt;
+        bytes = subst Bytes (sym (held-dropped s g ((turnOf s p) .drops) (omega arith))) (bytes-drop ((turnOf s p) .drops) (held s) (x .bytes));
+      }
 
-  pub told-fine : (s : St) (a : Answer) → Inv s → Given a → Fine s₀ (told s a)
-  told-fine s a x g =
-      record { inv = inv-pending s Idle x tt; reply = g .0; window = tt; same = ap (λ (b : Bool). pick b s₀ (at (s .ses) (s .ses .buf) Idle)) (g .1) }
+follow-goes : (k : St → Phase → Out) (s : St) (t : Then) → Inv s → NarrowThen t → ((p : Phase) → NarrowPhase p → Goes (frameOf (s .ses)) (k s p))
+    → Goes (frameOf (s .ses)) (onHop k (followed s t))
+follow-goes k s (Stop a) x n ih = told-goes s a x n
+follow-goes k s (Go p) x n ih = ih p n
 
-  module _ (s : St) (p : Phase) (x : Inv s) (n : NarrowPhase p) (l : wants (s .ses .capacity) p ≤ heldCount (s .ses .buf)) where
-    fit : Fit (s .ses .capacity) p (turnOf s p)
-    fit =
-        let g = x .good in
-        turn-fit (s .ses .capacity) (s .rx) (s .ses .buf .head) (omega arith) (omega arith) p n (omega arith)
-        (subst Bytes (view s g (wants (s .ses .capacity) p) l) (bytes-take (wants (s .ses .capacity) p) (held s) (x .bytes)))
+hop-goes : (k : St → Phase → Out) (s : St) (p : Phase) (lost : Bool) → Inv s → NarrowPhase p
+    → ((s′ : St) (q : Phase) → Inv s′ → NarrowPhase q → Goes (frameOf (s′ .ses)) (k s′ q)) → Goes (frameOf (s .ses)) (onHop k (hopped s p lost))
+unfolding hopped
+hop-goes k s p lost x n ih =
+    pick-cases (λ h. Goes (frameOf (s .ses)) (onHop k h)) (ltb (s .ses .capacity) (wants (s .ses .capacity) p))
+    (λ e. told-goes s A.TooLarge x (tt, refl))
+    (λ e. pick-cases (λ h. Goes (frameOf (s .ses)) (onHop k h)) (ltb (heldCount (s .ses .buf)) (wants (s .ses .capacity) p))
+    (λ f. asked-goes s p lost x n)
+    (λ f. let l = ltb-false _ _ f in
+    follow-goes k (turned s (turnOf s p)) ((turnOf s p) .then) (inv-turned s p x n l) ((fit s p x n l) .then)
+    (λ q m. ih (turned s (turnOf s p)) q (inv-turned s p x n l) m)))
 
-    inv-turned : Inv (turned s (turnOf s p))
-    inv-turned =
-        let g = x .good in
-        let d = fit .drops in
-        let k = fit .keeps in
-        record {
-          good = good-at s _ (s .rx) ((turned s (turnOf s p)) .msg) Idle g (omega arith) (g .inside) refl
-              (kept-length (s .rx) (s .msg) (s .ses .buf .head) ((turnOf s p) .keeps) (omega arith) (omega arith));
-          wide = x .wide;
-          lent = x .lent;
-          pending = tt;
-          bytes = subst Bytes (sym (held-dropped s g ((turnOf s p) .drops) (omega arith))) (bytes-drop ((turnOf s p) .drops) (held s) (x .bytes));
-        }
+pub pump-goes : (f : ℕ) (s : St) (p : Phase) (lost : Bool) → Inv s → NarrowPhase p → Goes (frameOf (s .ses)) (pumped f s p lost)
+unfolding pumped
+pump-goes zero s p lost x n = asked-goes s p lost x n
+pump-goes (suc f) s p lost x n = hop-goes (λ s′ q. pumped f s′ q lost) s p lost x n (λ s′ q x′ n′. pump-goes f s′ q lost x′ n′)
 
-  follow-fine : (k : St → Phase → Out) (s : St) (t : Then) → Inv s → NarrowThen t → ((p : Phase) → NarrowPhase p → Fine s₀ (k s p))
-      → Fine s₀ (onHop k (followed s t))
-  follow-fine k s (Stop a) x n ih = told-fine s a x n
-  follow-fine k s (Go p) x n ih = ih p n
+-- ---- writing
 
-  hop-fine : (k : St → Phase → Out) (s : St) (p : Phase) (lost : Bool) → Inv s → NarrowPhase p
-      → ((s′ : St) (q : Phase) → Inv s′ → NarrowPhase q → Fine s₀ (k s′ q)) → Fine s₀ (onHop k (hopped s p lost))
-  unfolding hopped
-  hop-fine k s p lost x n ih =
-      pick-cases (λ h. Fine s₀ (onHop k h)) (ltb (s .ses .capacity) (wants (s .ses .capacity) p))
-      (λ e. told-fine s A.TooLarge x (tt, refl))
-      (λ e. pick-cases (λ h. Fine s₀ (onHop k h)) (ltb (heldCount (s .ses .buf)) (wants (s .ses .capacity) p))
-      (λ f. asked-fine s p lost x n)
-      (λ f. let l = ltb-false _ _ f in
-      follow-fine k (turned s (turnOf s p)) ((turnOf s p) .then) (inv-turned s p x n l) ((fit s p x n l) .then)
-      (λ q m. ih (turned s (turnOf s p)) q (inv-turned s p x n l) m)))
+piece-goes : (s : St) (q : Request) (from n k : ℕ) → Inv s → NarrowRequest q → U64 from → U64 n → U64 (k + 1)
+    → Goes (frameOf (s .ses)) (out (sendPiece (s .ses) q from n k) (s .rx) (s .msg))
+piece-goes s q from n k x r f h i = go (pieceOf q n k) (piece-narrow q r n k)
+  where
+    y : Inv (st (at (s .ses) (s .ses .buf) (Writing q from (k + 1))) (s .rx) (s .msg))
+    y = inv-pending s _ x (r, (f, i))
 
-  pub pump-fine : (f : ℕ) (s : St) (p : Phase) (lost : Bool) → Inv s → NarrowPhase p → Fine s₀ (pumped f s p lost)
-  unfolding pumped
-  pump-fine zero s p lost x n = asked-fine s p lost x n
-  pump-fine (suc f) s p lost x n = hop-fine (λ s′ q. pumped f s′ q lost) s p lost x n (λ s′ q x′ n′. pump-fine f s′ q lost x′ n′)
+    go : (p : Piece) → NarrowPiece p
+        → Goes (frameOf (s .ses)) (out (stepped (at (s .ses) (s .ses .buf) (Writing q from (k + 1))) (pieceReply from n p)) (s .rx) (s .msg))
+    go (P.Header id arg) m = record { inv = y; reply = m; given = refl; frame = refl; asked = writes-bytes }
+    go P.Lent m = record { inv = y; reply = (f, h); given = refl; frame = refl; asked = writes-lent }
+    go P.Comma m = record { inv = y; reply = m; given = refl; frame = refl; asked = writes-bytes }
+    go (P.Digits d) m = record { inv = y; reply = m; given = refl; frame = refl; asked = writes-bytes }
+    go (P.Inner id) m = record { inv = y; reply = m; given = refl; frame = refl; asked = writes-bytes }
+    go (P.Word z) m = record { inv = y; reply = m; given = refl; frame = refl; asked = writes-bytes }
+    go P.End m = record { inv = y; reply = m; given = refl; frame = refl; asked = writes-bytes }
 
-  -- ---- writing
+message-goes : (s : St) (q : Request) (from : ℕ) (part : List ℕ) → Inv s → NarrowRequest q → U64 from → U64 (length part)
+    → Goes (frameOf (s .ses)) (beside (messageOut (s .ses) (s .rx) q from part) (s .msg))
+unfolding messageOut
+message-goes s q from part x r f h =
+    pick-cases (λ y. Goes (frameOf (s .ses)) (beside y (s .msg))) (leb (t .ses .buf .tail + length m) (length (t .rx)))
+    (λ e. whole (leb-true _ _ e)) (λ e. piece-goes t q from (length part) 0 (inv-tidied s x) r f h (omega arith))
+  where
+    t : St
+    t = tidied s
 
-  piece-fine : (s : St) (q : Request) (from n k : ℕ) → Inv s → NarrowRequest q → U64 from → U64 n → U64 (k + 1)
-      → Fine s₀ (out (sendPiece (s .ses) q from n k) (s .rx) (s .msg))
-  piece-fine s q from n k x r f h i = go (pieceOf q n k) (piece-narrow q r n k)
-    where
-      y : Inv (st (at (s .ses) (s .ses .buf) (Writing q from (k + 1))) (s .rx) (s .msg))
-      y = inv-pending s _ x (r, (f, i))
+    m : List ℕ
+    m = bytesOfRequest published (meant q part)
 
-      go : (p : Piece) → NarrowPiece p
-          → Fine s₀ (out (stepped (at (s .ses) (s .ses .buf) (Writing q from (k + 1))) (pieceReply from n p)) (s .rx) (s .msg))
-      go (P.Header id arg) m = record { inv = y; reply = m; window = tt; same = refl }
-      go P.Lent m = record { inv = y; reply = (f, h); window = tt; same = refl }
-      go P.Comma m = record { inv = y; reply = m; window = tt; same = refl }
-      go (P.Digits d) m = record { inv = y; reply = m; window = tt; same = refl }
-      go (P.Inner id) m = record { inv = y; reply = m; window = tt; same = refl }
-      go (P.Word z) m = record { inv = y; reply = m; window = tt; same = refl }
-      go P.End m = record { inv = y; reply = m; window = tt; same = refl }
+    whole : t .ses .buf .tail + length m ≤ length (t .rx)
+        → Goes (frameOf (s .ses)) (beside
+        (half (stepped (at (s .ses) (t .ses .buf) (Writing q from 0)) (R.WriteRx (t .ses .buf .tail) (length m))) (put (t .rx) (t .ses .buf .tail) m))
+        (s .msg))
+    whole l =
+        let g : Good t = good-tidied s (x .good) in
+        let y : Inv t = inv-tidied s x in
+        rw (put-in (t .rx) (t .ses .buf .tail) m l)
+        (record {
+          inv = record {
+            good = good-at t (t .ses .buf) (over (t .rx) (t .ses .buf .tail) m) (s .msg) _ g (g .order) (g .inside) (over-length (t .rx) (t .ses .buf .tail) m l) refl;
+            wide = x .wide;
+            lent = x .lent;
+            pending = (r, (f, omega arith));
+            bytes = subst Bytes (sym (window-keeps (t .rx) (t .ses .buf) (sound-of t g) m l)) (y .bytes);
+          };
+          reply = omega arith;
+          given = refl;
+          frame = refl;
+          asked = writes-rx;
+        })
 
-  message-fine : (s : St) (q : Request) (from : ℕ) (part : List ℕ) → Inv s → NarrowRequest q → U64 from → U64 (length part)
-      → Fine s₀ (beside (messageOut (s .ses) (s .rx) q from part) (s .msg))
-  unfolding messageOut
-  message-fine s q from part x r f h =
-      pick-cases (λ y. Fine s₀ (beside y (s .msg))) (leb (t .ses .buf .tail + length m) (length (t .rx)))
-      (λ e. whole (leb-true _ _ e)) (λ e. piece-fine t q from (length part) 0 (inv-tidied s x) r f h (omega arith))
-    where
-      t : St
-      t = tidied s
+pub sent-goes : (s : St) (q : Request) (from : ℕ) (part : List ℕ) → Inv s → NarrowRequest q → U64 from → U64 (length part)
+    → Goes (frameOf (s .ses)) (beside (sent (s .ses) (s .rx) q from part) (s .msg))
+unfolding sent
+sent-goes s Q.Stat from part x r f h = message-goes s Q.Stat from part x r f h
+sent-goes s Q.Sta2 from part x r f h = message-goes s Q.Sta2 from part x r f h
+sent-goes s Q.List from part x r f h = message-goes s Q.List from part x r f h
+sent-goes s Q.Lis2 from part x r f h = message-goes s Q.Lis2 from part x r f h
+sent-goes s Q.Recv from part x r f h = message-goes s Q.Recv from part x r f h
+sent-goes s (Q.Rcv2 y) from part x r f h = message-goes s (Q.Rcv2 y) from part x r f h
+sent-goes s (Q.Send m) from part x r f h = message-goes s (Q.Send m) from part x r f h
+sent-goes s (Q.Snd2 m y) from part x r f h = message-goes s (Q.Snd2 m y) from part x r f h
+sent-goes s Q.Data from part x r f h =
+    pick-cases (λ y. Goes (frameOf (s .ses)) (beside y (s .msg))) (eqb (length part) 0) (λ e. told-goes s A.Done x (tt, refl)) (λ e. message-goes s Q.Data from part x r f h)
+sent-goes s (Q.Done t) from part x r f h = piece-goes s (Q.Done t) 0 0 0 x r (omega arith) (omega arith) (omega arith)
+sent-goes s Q.Quit from part x r f h = piece-goes s Q.Quit 0 0 0 x r (omega arith) (omega arith) (omega arith)
 
-      m : List ℕ
-      m = bytesOfRequest published (meant q part)
+pub closing-goes : (s : St) (failed : Bool) (code : ℕ) → Inv s → U32 code → Goes (frameOf (s .ses)) (closingOut s failed code)
+closing-goes s failed code x n = record { inv = inv-pending s _ x n; reply = tt; given = refl; frame = refl; asked = closes }
 
-      whole : t .ses .buf .tail + length m ≤ length (t .rx)
-          → Fine s₀ (beside
-          (half (stepped (at (s .ses) (t .ses .buf) (Writing q from 0)) (R.WriteRx (t .ses .buf .tail) (length m))) (put (t .rx) (t .ses .buf .tail) m))
-          (s .msg))
-      whole l =
-          let g : Good t = good-tidied s (x .good) in
-          let y : Inv t = inv-tidied s x in
-          rw (put-in (t .rx) (t .ses .buf .tail) m l)
-          (record {
-            inv = record {
-              good = good-at t (t .ses .buf) (over (t .rx) (t .ses .buf .tail) m) (s .msg) _ g (g .order) (g .inside) (over-length (t .rx) (t .ses .buf .tail) m l) refl;
-              wide = x .wide;
-              lent = x .lent;
-              pending = (r, (f, omega arith));
-              bytes = subst Bytes (sym (window-keeps (t .rx) (t .ses .buf) (sound-of t g) m l)) (y .bytes);
-            };
-            reply = omega arith;
-            window = tt;
-            same = refl;
-          })
+-- a message was accepted whole, or a piece of it; lent is what the call lends
+module _ (s : St) (from : ℕ) (lent : List ℕ) (x : Inv s) (f : U64 from) (h : U64 (length lent)) where
+  resumed-goes : (q : Request) → Goes (frameOf (s .ses)) (resumed s q from lent)
+  unfolding resumed carried
+  resumed-goes Q.Stat = pump-goes 4 s (Header (W.Stat V1)) false x tt
+  resumed-goes Q.Sta2 = pump-goes 4 s (Header (W.Stat V2)) false x tt
+  resumed-goes Q.List = told-goes s A.Done x (tt, refl)
+  resumed-goes Q.Lis2 = told-goes s A.Done x (tt, refl)
+  resumed-goes Q.Recv = told-goes s A.Done x (tt, refl)
+  resumed-goes (Q.Rcv2 y) = told-goes s A.Done x (tt, refl)
+  resumed-goes (Q.Send m) = told-goes s A.Done x (tt, refl)
+  resumed-goes (Q.Snd2 m y) = told-goes s A.Done x (tt, refl)
+  resumed-goes Q.Data =
+      let n : ℕ = from + length (take dataMost (drop from lent)) in
+      sent-goes s Q.Data n (take dataMost (drop n lent)) x tt
+      (omega (arith, length-take dataMost (drop from lent), length-drop from lent)) (omega (arith, length-take dataMost (drop n lent), length-drop n lent))
+  resumed-goes (Q.Done t) = pump-goes 4 (tidied s) (Header W.Okay) false (inv-tidied s x) tt
+  resumed-goes Q.Quit = closing-goes s false 0 x (omega arith)
 
-  pub sent-fine : (s : St) (q : Request) (from : ℕ) (part : List ℕ) → Inv s → NarrowRequest q → U64 from → U64 (length part)
-      → Fine s₀ (beside (sent (s .ses) (s .rx) q from part) (s .msg))
-  unfolding sent
-  sent-fine s Q.Stat from part x r f h = message-fine s Q.Stat from part x r f h
-  sent-fine s Q.Sta2 from part x r f h = message-fine s Q.Sta2 from part x r f h
-  sent-fine s Q.List from part x r f h = message-fine s Q.List from part x r f h
-  sent-fine s Q.Lis2 from part x r f h = message-fine s Q.Lis2 from part x r f h
-  sent-fine s Q.Recv from part x r f h = message-fine s Q.Recv from part x r f h
-  sent-fine s (Q.Rcv2 y) from part x r f h = message-fine s (Q.Rcv2 y) from part x r f h
-  sent-fine s (Q.Send m) from part x r f h = message-fine s (Q.Send m) from part x r f h
-  sent-fine s (Q.Snd2 m y) from part x r f h = message-fine s (Q.Snd2 m y) from part x r f h
-  sent-fine s Q.Data from part x r f h =
-      pick-cases (λ y. Fine s₀ (beside y (s .msg))) (eqb (length part) 0) (λ e. told-fine s A.Done x (tt, refl)) (λ e. message-fine s Q.Data from part x r f h)
-  sent-fine s (Q.Done t) from part x r f h = piece-fine s (Q.Done t) 0 0 0 x r (omega arith) (omega arith) (omega arith)
-  sent-fine s Q.Quit from part x r f h = piece-fine s Q.Quit 0 0 0 x r (omega arith) (omega arith) (omega arith)
+  pub carried-fits : (q : Request) → U64 (length (carried q from lent))
+  unfolding carried
+  carried-fits q =
+      let m : U64 (length (take dataMost (drop from lent))) = omega (arith, length-take dataMost (drop from lent), length-drop from lent) in
+      pick-cases (λ (l : List ℕ). U64 (length l)) (isData q) (λ e. m) (λ e. h)
 
-  pub closing-fine : (s : St) (failed : Bool) (code : ℕ) → Inv s → U32 code → Fine s₀ (closingOut s failed code)
-  closing-fine s failed code x n = record { inv = inv-pending s _ x n; reply = tt; window = tt; same = refl }
-
-  -- a message was accepted whole, or a piece of it; lent is what the call lends
-  module _ (s : St) (from : ℕ) (lent : List ℕ) (x : Inv s) (f : U64 from) (h : U64 (length lent)) where
-    resumed-fine : (q : Request) → Fine s₀ (resumed s q from lent)
-    unfolding resumed carried
-    resumed-fine Q.Stat = pump-fine 4 s (Header (W.Stat V1)) false x tt
-    resumed-fine Q.Sta2 = pump-fine 4 s (Header (W.Stat V2)) false x tt
-    resumed-fine Q.List = told-fine s A.Done x (tt, refl)
-    resumed-fine Q.Lis2 = told-fine s A.Done x (tt, refl)
-    resumed-fine Q.Recv = told-fine s A.Done x (tt, refl)
-    resumed-fine (Q.Rcv2 y) = told-fine s A.Done x (tt, refl)
-    resumed-fine (Q.Send m) = told-fine s A.Done x (tt, refl)
-    resumed-fine (Q.Snd2 m y) = told-fine s A.Done x (tt, refl)
-    resumed-fine Q.Data =
-        let n : ℕ = from + length (take dataMost (drop from lent)) in
-        sent-fine s Q.Data n (take dataMost (drop n lent)) x tt
-        (omega (arith, length-take dataMost (drop from lent), length-drop from lent)) (omega (arith, length-take dataMost (drop n lent), length-drop n lent))
-    resumed-fine (Q.Done t) = pump-fine 4 (tidied s) (Header W.Okay) false (inv-tidied s x) tt
-    resumed-fine Q.Quit = closing-fine s false 0 x (omega arith)
-
-    pub carried-fits : (q : Request) → U64 (length (carried q from lent))
-    unfolding carried
-    carried-fits q =
-        let m : U64 (length (take dataMost (drop from lent))) = omega (arith, length-take dataMost (drop from lent), length-drop from lent) in
-        pick-cases (λ (l : List ℕ). U64 (length l)) (isData q) (λ e. m) (λ e. h)
-
-    pub wrote-on-fine : (q : Request) (k : ℕ) → NarrowRequest q → Fine s₀ (wroteOn s q from k lent)
-    unfolding wroteOn
-    wrote-on-fine q k r =
-        pick-cases (Fine s₀) (eqb k 0) (λ e. resumed-fine q)
-        (λ e. pick-cases (Fine s₀) (isEnd (pieceOf q (length (carried q from lent)) k)) (λ g. resumed-fine q)
-        (λ g. piece-fine s q from (length (carried q from lent)) k x r f (carried-fits q) (omega (arith, piece-early q (length (carried q from lent)) k g))))
+  pub wrote-on-goes : (q : Request) (k : ℕ) → NarrowRequest q → Goes (frameOf (s .ses)) (wroteOn s q from k lent)
+  unfolding wroteOn
+  wrote-on-goes q k r =
+      pick-cases (Goes (frameOf (s .ses))) (eqb k 0) (λ e. resumed-goes q)
+      (λ e. pick-cases (Goes (frameOf (s .ses))) (isEnd (pieceOf q (length (carried q from lent)) k)) (λ g. resumed-goes q)
+      (λ g. piece-goes s q from (length (carried q from lent)) k x r f (carried-fits q) (omega (arith, piece-early q (length (carried q from lent)) k g))))
