@@ -75,7 +75,7 @@ pub record CodedHost (h : Host) : Type 0 where
   pub close : CodedReport (h .close)
   pub end : Coded (h .end)
 
-coded-narrow : (e : End) → Coded e → NarrowFault (faultOf e)
+pub coded-narrow : (e : End) → Coded e → NarrowFault (faultOf e)
 coded-narrow closed c = tt
 coded-narrow (error n) c = c
 

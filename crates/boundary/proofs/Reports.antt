@@ -15,7 +15,7 @@ use Rattle.protocol.specs.Calls.{Setting, orElse, refuse, pathRefusal, flagRefu
 use Rattle.protocol.specs.Flags.{refusedFlags}
 use Rattle.protocol.specs.Ids.{Dialect}
 use Rattle.protocol.specs.Messages as M
-use Rattle.protocol.proofs.Bodies.{pick-cases}
+use Rattle.protocol.proofs.Bodies.{pick-cases, or-false}
 use Rattle.record.specs.Narrow.{U32, U64, NarrowPhase, NarrowRequest, NarrowPending}
 use Rattle.recv_buf.specs.RecvBuf.{cursor, heldBytes}
 use Rattle.request.specs.Meaning.{meant}
@@ -75,12 +75,12 @@ pub data NarrowRefusal : Option P.Answer → Type 0 where
   by-number : {n : ℕ} → Plain n → NarrowRefusal (some (P.refused n))
   by-feature : {n : ℕ} → U64 n → NarrowRefusal (some (P.missing n))
 
-or-narrow : {a b : Option P.Answer} → NarrowRefusal a → NarrowRefusal b → NarrowRefusal (orElse a b)
+pub or-narrow : {a b : Option P.Answer} → NarrowRefusal a → NarrowRefusal b → NarrowRefusal (orElse a b)
 or-narrow lets y = y
 or-narrow (by-number h) y = by-number h
 or-narrow (by-feature h) y = by-feature h
 
-refuse-narrow : {a : P.Answer} (b : Bool) → NarrowRefusal (some a) → NarrowRefusal (refuse b a)
+pub refuse-narrow : {a : P.Answer} (b : Bool) → NarrowRefusal (some a) → NarrowRefusal (refuse b a)
 refuse-narrow b x = pick-cases NarrowRefusal b (λ e. x) (λ e. lets)
 
 feature-narrow : (fs : List Bool) (needed : Bool) (n : ℕ) → U64 n → NarrowRefusal (featureRefusal fs needed n)
@@ -173,11 +173,6 @@ fault-given : (e : Fault) → NarrowFault e → Given (faultAnswer e)
 fault-given F.Closed n = (tt, refl)
 fault-given (F.Error c) n = (n, refl)
 
-pub neither : (b c : Bool) → (b || c) ≡ false → (b ≡ false) × (c ≡ false)
-neither false false e = (refl, refl)
-neither false true e = absurd (true≢false e)
-neither true c e = absurd (true≢false e)
-
 -- a read of no bytes, or beyond the window
 module _ (s : St) (p : Phase) (until : ℕ) (lost : Bool) (k : ℕ) (e : (eqb k 0 || ltb (s .ses .capacity - s .ses .buf .tail) k) ≡ true) where
   pub read-in-refused : readIn s p until lost k ≡ refusedOut s 11
@@ -208,7 +203,7 @@ module _ (s : St) (x : Inv s) where
         → (eqb k 0 || ltb (s .ses .capacity - s .ses .buf .tail) k) ≡ false → Goes (frameOf (s .ses)) (readIn s p until lost k)
     unfolding readIn
     read-in-goes p until lost n u e =
-        let (a, b) = neither (eqb k 0) (ltb (s .ses .capacity - s .ses .buf .tail) k) e in
+        let (a, b) = or-false (eqb k 0) (ltb (s .ses .capacity - s .ses .buf .tail) k) e in
         let y : Inv came = inv-came (ltb-false _ _ b) in
         rw (a, b)
         (pick-cases (Goes (frameOf (s .ses))) (ltb (s .ses .buf .tail + k) until)

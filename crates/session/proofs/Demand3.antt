@@ -104,7 +104,7 @@ module _ {X : Type 0} (S : System X) (banner : List ℕ) (close : Report) (qs : 
 -- ---- the session's own steps
 
 -- the features of a banner, kept and listed again
-features-listed : (banner : List ℕ) → listed (featuresFrom (featuresOf banner)) ≡ featuresOf banner
+pub features-listed : (banner : List ℕ) → listed (featuresFrom (featuresOf banner)) ≡ featuresOf banner
 unfolding featuresOf
 features-listed banner = refl
 

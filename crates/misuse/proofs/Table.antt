@@ -1,0 +1,249 @@
+-- A step of the session is refused as the table says, and leaves everything as it was, or is let in.
+-- Assumes nothing.
+use Prim.Native.Nat.{ℕ, zero, suc, _+_, _-_, _<_, _^_}
+use mathlib.Core.Bool.{Bool, true, false, true≢false, _&&_, _||_, not}
+use mathlib.Core.List.{List}
+use mathlib.Core.Option.{Option, none, some}
+use mathlib.Core.Path.{_≡_, refl, sym, subst}
+use native.Mathlib.Omega.{arith}
+use borrow.Author.Tests.{ne-eqb}
+use lib.Dec.{eqb, ltb}
+use lib.ListN.{length}
+use Rattle.protocol.specs.Answers as P
+use Rattle.protocol.specs.Answers.{Answer, refused}
+use Rattle.protocol.specs.Bytes.{Bytes, pick}
+use Rattle.protocol.specs.Calls.{orElse, refuse, requestRefusal}
+use Rattle.record.specs.Fields.{modeOf, flagsOf}
+use Rattle.record.specs.Narrow.{U32, U64, NarrowRequest, NarrowPending}
+use Rattle.recv_buf.specs.RecvBuf.{cursor, heldBytes}
+use Rattle.request.specs.Meaning.{meant}
+use Rattle.request.specs.declared.Request.{Request}
+use Rattle.request.specs.declared.Request.the-variants as Q
+use Rattle.session.specs.declared.Answer.the-variants as A
+use Rattle.session.specs.declared.Fault.{Fault}
+use Rattle.session.specs.declared.Pending.{Pending}
+use Rattle.session.specs.declared.Session.{Session}
+use Rattle.session.specs.declared.Version.{Version}
+use Rattle.session.specs.declared.Version.the-variants.{V1, V2}
+use Rattle.session.specs.Calls.{misfit, isIdle, callRefusal, unless, refusalOf, settingOf, answerOf, orRefuse, startCall, entryCall, chunkCall}
+use Rattle.session.specs.Core.{faultOf}
+use Rattle.session.specs.Host.{Show}
+use Rattle.session.specs.Reports.{reportRefusal, refusalAt, readIn, readAt, reportRead, wroteAt, reportWrote, faultAt, reportFault}
+use Rattle.session.specs.State.{St, st, Out, out, begun, refusing}
+use Rattle.session.proofs.Misfit.{misfit-fits}
+use Rattle.session.proofs.Turns.{Frame, frameOf}
+use Rattle.boundary.specs.Crossing.{requestNumbered, callNumbered, unknownCall}
+use Rattle.boundary.proofs.Logs.{coded-narrow}
+use Rattle.boundary.proofs.Reports.{NarrowFault, start-goes, entry-goes, chunk-goes, read-in-refused, read-in-goes, closed-goes, write-fault-goes, read-fault-goes, close-fault-goes}
+use Rattle.boundary.proofs.Steps.{Inv, Goes, Awaits, idle, reads, writes-rx, writes-lent, writes-bytes, closes, Asked, wrote-on-goes}
+use Rattle.misuse.specs.Misuse.{Report, hasRead, wrote, fault, report, WideAct, Seen, pending, closing, callOf, numbered, awaited, outside}
+use Rattle.misuse.proofs.Known.{Own, inv-of, bytes-held, seenOf}
+
+-- ---- what a step comes to
+
+-- a refusal, and all as it was; or what a step leaves that is let in, and keeps φ
+abbrev pub Comes : Option Answer → Frame → St → Out → Type 0
+Comes none φ s o = Goes φ o
+Comes (some a) φ s o = o ≡ out (refusing (s .ses) (answerOf a)) (s .rx) (s .msg)
+
+or-comes : (r : Option Answer) (φ : Frame) (s : St) (o : Out) → Goes φ o → Comes r φ s (orRefuse r s o)
+or-comes none φ s o g = g
+or-comes (some a) φ s o g = refl
+
+-- the numbers below k, and the others
+abbrev Below : ℕ → (ℕ → Type 0) → Type 0
+Below zero P = Unit {0}
+Below (suc k) P = P 0 × Below k (λ n. P (suc n))
+
+abbrev above : ℕ → ℕ → ℕ
+above zero n = n
+above (suc k) n = suc (above k n)
+
+first : (k : ℕ) (P : ℕ → Type 0) → Below k P → ((n : ℕ) → P (above k n)) → (n : ℕ) → P n
+first zero P f g n = g n
+first (suc k) P f g zero = f .0
+first (suc k) P f g (suc n) = first k (λ m. P (suc m)) (f .1) g n
+
+module _ (s : St) (r : Option Answer) (φ : Frame) (o : Out) where
+  abbrev unfit : Bool
+  unfit = misfit (s .ses) (length (s .rx)) (length (s .msg))
+
+  -- behind a call's refusals
+  call-comes : (unfit ≡ false → Comes r φ s o)
+      → Comes (orElse (refuse unfit (refused 3)) (orElse (refuse (s .ses .ended) (refused 6)) (orElse (refuse (not (isIdle (s .ses .pending))) (refused 4)) r)))
+      φ s (unless (refusalOf s) s o)
+  unfolding callRefusal
+  call-comes f = go unfit (s .ses .ended) (isIdle (s .ses .pending)) refl
+    where
+      go : (m e i : Bool) → unfit ≡ m
+          → Comes (orElse (refuse m (refused 3)) (orElse (refuse e (refused 6)) (orElse (refuse (not i) (refused 4)) r))) φ s
+          (unless (pick m 3 (pick e 6 (pick i 0 4))) s o)
+      go true e i q = refl
+      go false true i q = refl
+      go false false false q = refl
+      go false false true q = f q
+
+  -- behind a report's, n bytes lent
+  report-comes : (n : ℕ) → (isIdle (s .ses .pending) ≡ true → r ≡ some (refused 5)) → (unfit ≡ false → Comes r φ s o)
+      → Comes (orElse (refuse (unfit || (not (isIdle (s .ses .pending)) && not (eqb n (s .ses .lent)))) (refused 3)) (orElse (refuse (s .ses .ended) (refused 6)) r))
+      φ s (unless (refusalAt s n) s o)
+  unfolding reportRefusal
+  report-comes n h f = go unfit (isIdle (s .ses .pending)) (s .ses .ended) (eqb n (s .ses .lent)) refl h
+    where
+      go : (m i e l : Bool) → unfit ≡ m → (i ≡ true → r ≡ some (refused 5))
+          → Comes (orElse (refuse (m || (not i && not l)) (refused 3)) (orElse (refuse e (refused 6)) r)) φ s
+          (unless (pick m 3 (pick i (pick e 6 5) (pick l (pick e 6 0) 3))) s o)
+      go true i e l q k = refl
+      go false true true l q k = refl
+      go false true false l q k = subst (λ (y : Option Answer). Comes y φ s (unless 5 s o)) (sym (k refl)) refl
+      go false false e false q k = refl
+      go false false true true q k = refl
+      go false false false true q k = f q
+
+-- ---- one session, and what is lent to it
+
+module _ (s : Session) (own : Own s) (lent rx msg : List ℕ) (short : U64 (length lent)) (bytes : Bytes rx) where
+  abbrev pub here : St
+  here = st s rx msg
+
+  inv : unfit here none (frameOf s) (unknownCall here) ≡ false → Inv here
+  inv e = inv-of s rx msg own (misfit-fits s (length rx) (length msg) e) bytes
+
+  -- ---- the calls
+
+  -- their refusals, and then r
+  abbrev pub behind : Option Answer → Option Answer
+  behind r =
+      orElse (refuse (misfit s (length rx) (length msg)) (refused 3))
+      (orElse (refuse (s .ended) (refused 6)) (orElse (refuse (not (isIdle (s .pending))) (refused 4)) r))
+
+  abbrev pub begins : Frame
+  begins = frameOf (begun s (length lent))
+
+  starts : (q : Request) → NarrowRequest q → Comes (behind (requestRefusal (settingOf s) (meant q lent))) begins here (startCall here q lent)
+  unfolding startCall
+  starts q n = call-comes here _ begins _ (λ e. or-comes (requestRefusal (settingOf s) (meant q lent)) begins here _ (start-goes here (inv e) q lent n short))
+
+  enters : (v : Version) → Comes (behind none) begins here (entryCall here v (length lent))
+  unfolding entryCall
+  enters v = call-comes here none begins _ (λ e. entry-goes here (inv e) v (length lent) short)
+
+  chunks : Comes (behind none) begins here (chunkCall here (length lent))
+  unfolding chunkCall
+  chunks = call-comes here none begins _ (λ e. chunk-goes here (inv e) (length lent) short)
+
+  unknown : Comes (behind (some (refused 5))) begins here (unknownCall here)
+  unknown = call-comes here (some (refused 5)) begins _ (λ e. refl)
+
+  module _ (sh : Show) (a b : ℕ) (x : U32 a) (y : U32 b) where
+    abbrev pub Called : ℕ → Type 0
+    Called n =
+        Comes (behind (numbered (seenOf (frameOf s) sh) (callOf n a b lent))) begins here
+        (callNumbered n a b here lent (requestNumbered n a b) (unknownCall here))
+
+    pub calls : (n : ℕ) → Called n
+    calls =
+        first 15 Called (
+          unknown,
+          (
+            starts Q.Stat tt,
+            (
+              starts Q.Sta2 tt,
+              (
+                starts Q.List tt,
+                (
+                  starts Q.Lis2 tt,
+                  (
+                    starts Q.Recv tt,
+                    (
+                      starts (Q.Rcv2 (flagsOf b)) y,
+                      (
+                        starts (Q.Send (modeOf a)) x,
+                        (
+                          starts (Q.Snd2 (modeOf a) (flagsOf b)) (x, y),
+                          (starts Q.Data tt, (starts (Q.Done a) x, (starts Q.Quit tt, (enters V1, (enters V2, (chunks, tt)))))),
+                        ),
+                      ),
+                    ),
+                  ),
+                ),
+              ),
+            ),
+          ),
+        )
+        (λ n. rw (ne-eqb (above 15 n) 12 (omega arith), ne-eqb (above 15 n) 13 (omega arith), ne-eqb (above 15 n) 14 (omega arith)) unknown)
+
+  -- ---- the reports
+
+  -- what is kept: a quit has ended once its close is reported
+  abbrev pub after : Show → Frame
+  after sh = record { capacity = s .capacity; message = s .message; lent = s .lent; features = s .features; ended = closing sh || s .ended }
+
+  -- 5 and 11
+  abbrev pub misplaced : Show → Report → Option Answer
+  misplaced sh r = orElse (refuse (not (awaited sh r)) (refused 5)) (refuse (outside sh r) (refused 11))
+
+  module _ (good : Inv here) where
+    read-comes : {p : Pending} {sh : Show} (k : ℕ) → Awaits (s .buf .tail) (s .capacity - s .buf .tail) p sh → NarrowPending p
+        → Comes (misplaced sh (hasRead k)) (after sh) here (readAt p here k)
+    unfolding readAt
+    read-comes k idle n = refl
+    read-comes k (reads {p = p} {until = until} {lost = lost}) n = go (eqb k 0 || ltb (s .capacity - s .buf .tail) k) refl
+      where
+        go : (b : Bool) → (eqb k 0 || ltb (s .capacity - s .buf .tail) k) ≡ b → Comes (refuse b (refused 11)) (frameOf s) here (readIn here p until lost k)
+        go true e = read-in-refused here p until lost k e
+        go false e = read-in-goes here good k (bytes-held rx _ bytes) p until lost (n .0) (n .1) e
+    read-comes k writes-rx n = refl
+    read-comes k writes-lent n = refl
+    read-comes k writes-bytes n = refl
+    read-comes k closes n = refl
+
+    wrote-comes : {p : Pending} {sh : Show} → Awaits (s .buf .tail) (s .capacity - s .buf .tail) p sh → NarrowPending p
+        → Comes (misplaced sh wrote) (after sh) here (wroteAt p here lent)
+    unfolding wroteAt
+    wrote-comes idle n = refl
+    wrote-comes reads n = refl
+    wrote-comes (writes-rx {q = q} {from = from} {k = k}) n = wrote-on-goes here from lent good (n .1 .0) short q k (n .0)
+    wrote-comes (writes-lent {q = q} {from = from} {k = k}) n = wrote-on-goes here from lent good (n .1 .0) short q k (n .0)
+    wrote-comes (writes-bytes {q = q} {from = from} {k = k}) n = wrote-on-goes here from lent good (n .1 .0) short q k (n .0)
+    wrote-comes (closes {failed = failed} {code = code}) n = closed-goes here good failed code A.Done n (tt, refl)
+
+    fault-comes : {p : Pending} {sh : Show} (f : P.End) → NarrowFault (faultOf f) → Awaits (s .buf .tail) (s .capacity - s .buf .tail) p sh → NarrowPending p
+        → Comes (misplaced sh (fault f)) (after sh) here (faultAt p here (faultOf f))
+    unfolding faultAt
+    fault-comes f c idle n = refl
+    fault-comes f c (reads {lost = lost}) n = read-fault-goes here good (faultOf f) c lost
+    fault-comes f c (writes-rx {q = q}) n = write-fault-goes here good (faultOf f) c q
+    fault-comes f c (writes-lent {q = q}) n = write-fault-goes here good (faultOf f) c q
+    fault-comes f c (writes-bytes {q = q}) n = write-fault-goes here good (faultOf f) c q
+    fault-comes f c (closes {failed = failed} {code = code}) n = close-fault-goes here good (faultOf f) c failed code n
+
+  -- nothing is awaited where nothing is pending
+  none-awaited : {t w : ℕ} {p : Pending} {sh : Show} → Awaits t w p sh → (r : Report) → isIdle p ≡ true → misplaced sh r ≡ some (refused 5)
+  none-awaited idle (hasRead k) e = refl
+  none-awaited idle wrote e = refl
+  none-awaited idle (fault f) e = refl
+  none-awaited reads r e = absurd (true≢false (sym e))
+  none-awaited writes-rx r e = absurd (true≢false (sym e))
+  none-awaited writes-lent r e = absurd (true≢false (sym e))
+  none-awaited writes-bytes r e = absurd (true≢false (sym e))
+  none-awaited closes r e = absurd (true≢false (sym e))
+
+  -- their refusals, and then r
+  abbrev pub later : Option Answer → Option Answer
+  later r =
+      orElse (refuse (misfit s (length rx) (length msg) || (not (isIdle (s .pending)) && not (eqb (length lent) (s .lent)))) (refused 3))
+      (orElse (refuse (s .ended) (refused 6)) r)
+
+  abbrev pub reported : Report → Out
+  reported (hasRead k) = reportRead here (length lent) k
+  reported wrote = reportWrote here lent
+  reported (fault f) = reportFault here (length lent) (faultOf f)
+
+  pub reports : (sh : Show) → Asked s sh → (r : Report) → WideAct (report r) → Comes (later (misplaced sh r)) (after sh) here (reported r)
+  unfolding reportRead reportWrote reportFault
+  reports sh a (hasRead k) w =
+      report-comes here _ (after sh) _ (length lent) (none-awaited a (hasRead k)) (λ e. read-comes (inv e) k a (own .narrow .pending))
+  reports sh a wrote w = report-comes here _ (after sh) _ (length lent) (none-awaited a wrote) (λ e. wrote-comes (inv e) a (own .narrow .pending))
+  reports sh a (fault f) w =
+      report-comes here _ (after sh) _ (length lent) (none-awaited a (fault f)) (λ e. fault-comes (inv e) f (coded-narrow f w) a (own .narrow .pending))
