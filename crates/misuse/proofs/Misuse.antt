@@ -12,8 +12,9 @@ use lib.ListN.{length}
 use Rattle.protocol.specs.Answers as P
 use Rattle.protocol.specs.Answers.{Answer, refused}
 use Rattle.protocol.specs.Bytes.{Bytes, pick}
-use Rattle.protocol.specs.Calls.{Call, call, nextEntry, nextChunk, orElse, refuse}
+use Rattle.protocol.specs.Calls.{v1, v2, Call, call, nextEntry, nextChunk, orElse, refuse}
 use Rattle.protocol.specs.Features.{featuresOf}
+use Rattle.protocol.specs.Messages.{stat, sta2, list, lis2, recv, ask, rcv2, send, snd2, chunk, done, quit}
 use Rattle.record.specs.Narrow.{U32, U64}
 use Rattle.record.specs.Record.{stored, size}
 use Rattle.session.specs.declared.Answer.the-variants as A
@@ -22,12 +23,12 @@ use Rattle.session.specs.declared.Reply.the-variants as R
 use Rattle.session.specs.declared.Session.{Session}
 use Rattle.session.specs.Calls.{fresh, openRefusal, misfit}
 use Rattle.session.specs.Core.{featuresFrom}
-use Rattle.session.specs.Host.{Show, told, Step}
+use Rattle.session.specs.Host.{Show, told, Step, lentOf}
 use Rattle.session.specs.Shown.{paper}
 use Rattle.session.specs.State.{St, st, Out}
 use Rattle.session.proofs.Demand3.{features-listed}
 use Rattle.session.proofs.Turns.{Frame, frameOf}
-use Rattle.boundary.specs.Boundary.{stepOf}
+use Rattle.boundary.specs.Boundary.{callNumber, firstNumber, flagNumber, stepOf}
 use Rattle.boundary.specs.Crossing.{Crossed, turnedAway, isRefusal, back, OpenCrossed, crossOpen, crossStart, crossRead, crossWrote, crossFault}
 use Rattle.boundary.specs.Heard.{answerHeard, heard}
 use Rattle.boundary.specs.Told.{replyNumber, outSize}
@@ -229,9 +230,28 @@ module _ (rec banner : List ℕ) (c m : ℕ) (wide : m < 2 ^ 63) where
           subst (λ (fs : List Bool). Knows (record { capacity = c; message = m; features = fs; lent = 0; last = told P.done; ended = false }) (stored new))
           (features-listed banner) (knows new (told P.done) (own-new (ltb-false _ _ p) (ltb-false _ _ q)) idle)
 
+-- ---- the claim
+
+call-numbers : (q : Call) → callOf (callNumber q) (firstNumber q) (flagNumber q) (lentOf q) ≡ some q
+call-numbers (call (ask stat p)) = refl
+call-numbers (call (ask sta2 p)) = refl
+call-numbers (call (ask list p)) = refl
+call-numbers (call (ask lis2 p)) = refl
+call-numbers (call (ask recv p)) = refl
+call-numbers (call (rcv2 p f)) = refl
+call-numbers (call (send p m)) = refl
+call-numbers (call (snd2 p m f)) = refl
+call-numbers (call (chunk x)) = refl
+call-numbers (call (done t)) = refl
+call-numbers (call quit) = refl
+call-numbers (nextEntry v1) = refl
+call-numbers (nextEntry v2) = refl
+call-numbers nextChunk = refl
+
 pub misuse : Claim
 misuse =
     record {
+      calls = call-numbers;
       opens = open-answers;
       every = λ rec banner c m wide z es w. every (opened banner c m) (crossOpen rec banner c m .rec) es (opened-known rec banner c m wide z) w;
     }

@@ -18,7 +18,8 @@ use Rattle.protocol.specs.Messages.{stat, sta2, list, lis2, recv, ask, rcv2, se
 use Rattle.record.specs.Record.{size}
 use Rattle.session.specs.Core.{faultOf}
 use Rattle.session.specs.Demand3.{Coded}
-use Rattle.session.specs.Host.{Show, told, read, writeRx, writeLent, writeBytes, close}
+use Rattle.session.specs.Host.{Show, told, read, writeRx, writeLent, writeBytes, close, lentOf}
+use Rattle.boundary.specs.Boundary.{callNumber, firstNumber, flagNumber}
 use Rattle.boundary.specs.Crossing.{Crossed, OpenCrossed, crossOpen, crossStart, crossRead, crossWrote, crossFault}
 use Rattle.boundary.specs.Heard.{heard}
 use Rattle.boundary.specs.Told.{outSize}
@@ -208,8 +209,10 @@ abbrev pub Opens : Option Answer → List ℕ → OpenCrossed → Type 0
 Opens (some a) rec o = (o .number ≡ number a) × (o .rec ≡ rec)
 Opens none rec o = o .number ≡ 0
 
--- Any record, any banner, any two lengths; where opening answers 0, any list of calls and reports after it.
+-- Any record, any banner, any two lengths; where opening answers 0, any list of calls and reports after it. The calls are those of demand 3,
+-- by their numbers.
 pub record Claim : Type 0 where
+  pub calls : (q : Call) → callOf (callNumber q) (firstNumber q) (flagNumber q) (lentOf q) ≡ some q
   pub opens : (rec banner : List ℕ) (c m : ℕ) → Opens (openRefused rec c m) rec (crossOpen rec banner c m)
   pub every : (rec banner : List ℕ) (c m : ℕ) → m < 2 ^ 63 → crossOpen rec banner c m .number ≡ 0
       → (es : List Event) → AllWide es → Every (opened banner c m) (crossOpen rec banner c m .rec) es
