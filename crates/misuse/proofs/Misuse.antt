@@ -34,11 +34,11 @@ use Rattle.boundary.specs.Heard.{answerHeard, heard}
 use Rattle.boundary.specs.Told.{replyNumber, outSize}
 use Rattle.boundary.proofs.Carried.{image, loads, back-image, read-back}
 use Rattle.boundary.proofs.Heard.{heard-told}
-use Rattle.boundary.proofs.Reports.{NarrowRefusal, lets, by-number, by-feature, or-narrow, refuse-narrow, request-narrow}
+use Rattle.boundary.proofs.Reports.{NarrowRefusal, lets, by-number, by-feature}
 use Rattle.boundary.proofs.Steps.{Asked, idle, fine}
 use Rattle.misuse.specs.Misuse.{Report, hasRead, wrote, fault, Act, start, report, Event, WideAct, Wide, AllWide, crossedBy, Seen, opened, pending, openRefused, misfits, otherLent, callOf, numbered, awaited, outside, refusedAt, refusal, heardOf, Answers, seenAfter, follow, Every, Opens, Claim}
 use Rattle.misuse.proofs.Known.{Own, own-of, misfit-own, seenOf, Knows, knows, pending-is}
-use Rattle.misuse.proofs.Table.{Comes, behind, begins, calls, after, misplaced, later, reported, reports}
+use Rattle.misuse.proofs.Table.{Comes, numbered-narrow, behind, behind-narrow, begins, calls, after, misplaced, later, later-narrow, reported, reports}
 
 -- ---- numbers
 
@@ -65,24 +65,6 @@ not-refused (R.WriteRx at len) g n a b e = omega arith
 not-refused (R.WriteLent at len) g n a b e = omega arith
 not-refused (R.WriteBytes p) g n a b e = omega arith
 not-refused R.Close g n a b e = omega arith
-
--- the table's answers are refusals, and fit a reply
-numbered-narrow : (v : Seen) (q : Option Call) → NarrowRefusal (numbered v q)
-numbered-narrow v none = by-number {n = 5} (omega arith)
-numbered-narrow v (some (call q)) = request-narrow _ q
-numbered-narrow v (some (nextEntry x)) = lets
-numbered-narrow v (some nextChunk) = lets
-
-table-narrow : (v : Seen) (e : Event) (x : Act) → NarrowRefusal (refusedAt v e x)
-table-narrow v e (start n a b) =
-    or-narrow (refuse-narrow (misfits v e) (by-number {n = 3} (omega arith)))
-    (or-narrow (refuse-narrow (v .ended) (by-number {n = 6} (omega arith)))
-    (or-narrow (refuse-narrow (pending (v .last)) (by-number {n = 4} (omega arith))) (numbered-narrow v (callOf n a b (e .lent)))))
-table-narrow v e (report r) =
-    or-narrow (refuse-narrow (misfits v e || otherLent v e) (by-number {n = 3} (omega arith)))
-    (or-narrow (refuse-narrow (v .ended) (by-number {n = 6} (omega arith)))
-    (or-narrow (refuse-narrow (not (awaited (v .last) r)) (by-number {n = 5} (omega arith)))
-    (refuse-narrow (outside (v .last) r) (by-number {n = 11} (omega arith)))))
 
 -- ---- one event
 
@@ -141,11 +123,11 @@ module _ (s : Session) (sh : Show) (own : Own s) (asked : Asked s sh) (lent rx m
           subst (λ (y : Out). Holds v (stored s) (ev x) r (back (stored s) out y)) (sym g)
           ((refl, heard-told out room rx msg (R.Told (A.Missing n)) h, refl, refl, refl), knows s sh own asked)
 
-      holds : (c : Crossed) (r : Option Answer) → c ≡ back (stored s) out o → refusal v (ev x) ≡ r → Comes r φ here o
+      holds : (c : Crossed) (r : Option Answer) → c ≡ back (stored s) out o → refusal v (ev x) ≡ r → NarrowRefusal r → Comes r φ here o
           → Holds v (stored s) (ev x) (refusal v (ev x)) c
-      holds c r i t g =
+      holds c r i t n g =
           subst (Holds v (stored s) (ev x) (refusal v (ev x))) (sym i)
-          (comes-holds (refusal v (ev x)) (table-narrow v (ev x) x) (subst (λ (y : Option Answer). Comes y φ here o) (sym t) g))
+          (subst (λ (y : Option Answer). Holds v (stored s) (ev x) y (back (stored s) out o)) (sym t) (comes-holds r n g))
 
     -- a call
     call-table : (n a b : ℕ) → refusal v (ev (start n a b)) ≡ behind s own lent rx msg few bytes (numbered v (callOf n a b lent))
@@ -156,7 +138,7 @@ module _ (s : Session) (sh : Show) (own : Own s) (asked : Asked s sh) (lent rx m
     unfolding crossStart
     call-holds n a b p q =
         holds (start n a b) (begins s own lent rx msg few bytes) _ (λ y. refl) _ _ (loads here (own .narrow) out room _) (call-table n a b)
-        (calls s own lent rx msg few bytes sh a b p q n)
+        (behind-narrow s own lent rx msg few bytes _ (numbered-narrow v (callOf n a b lent))) (calls s own lent rx msg few bytes sh a b p q n)
 
     -- a report
     report-table : (r : Report) → refusal v (ev (report r)) ≡ later s own lent rx msg few bytes (misplaced s own lent rx msg few bytes sh r)
@@ -172,7 +154,7 @@ module _ (s : Session) (sh : Show) (own : Own s) (asked : Asked s sh) (lent rx m
     event-holds (start n a b) (p, q) = call-holds n a b p q
     event-holds (report r) w =
         holds (report r) (after s own lent rx msg few bytes sh) _ (λ y. refl) _ _ (report-crosses r) (report-table r)
-        (reports s own lent rx msg few bytes sh asked r w)
+        (later-narrow s own lent rx msg few bytes sh r) (reports s own lent rx msg few bytes sh asked r w)
 
   any-holds : (x : Act) → WideAct x → U64 (length lent) → Bytes rx → Holds v (stored s) (ev x) (refusal v (ev x)) (crossedBy (stored s) (ev x))
   any-holds x w few bytes = go (ltb (length out) outSize) refl

@@ -12,7 +12,7 @@ use lib.ListN.{length}
 use Rattle.protocol.specs.Answers as P
 use Rattle.protocol.specs.Answers.{Answer, refused}
 use Rattle.protocol.specs.Bytes.{Bytes, pick}
-use Rattle.protocol.specs.Calls.{orElse, refuse, requestRefusal}
+use Rattle.protocol.specs.Calls.{Call, call, nextEntry, nextChunk, orElse, refuse, requestRefusal}
 use Rattle.record.specs.Fields.{modeOf, flagsOf}
 use Rattle.record.specs.Narrow.{U32, U64, NarrowRequest, NarrowPending}
 use Rattle.recv_buf.specs.RecvBuf.{cursor, heldBytes}
@@ -34,7 +34,7 @@ use Rattle.session.proofs.Misfit.{misfit-fits}
 use Rattle.session.proofs.Turns.{Frame, frameOf}
 use Rattle.boundary.specs.Crossing.{requestNumbered, callNumbered, unknownCall}
 use Rattle.boundary.proofs.Logs.{coded-narrow}
-use Rattle.boundary.proofs.Reports.{NarrowFault, start-goes, entry-goes, chunk-goes, read-in-refused, read-in-goes, closed-goes, write-fault-goes, read-fault-goes, close-fault-goes}
+use Rattle.boundary.proofs.Reports.{NarrowRefusal, lets, by-number, or-narrow, refuse-narrow, request-narrow, NarrowFault, start-goes, entry-goes, chunk-goes, read-in-refused, read-in-goes, closed-goes, write-fault-goes, read-fault-goes, close-fault-goes}
 use Rattle.boundary.proofs.Steps.{Inv, Goes, Awaits, idle, reads, writes-rx, writes-lent, writes-bytes, closes, Asked, wrote-on-goes}
 use Rattle.misuse.specs.Misuse.{Report, hasRead, wrote, fault, report, WideAct, Seen, pending, closing, callOf, numbered, awaited, outside}
 use Rattle.misuse.proofs.Known.{Own, inv-of, bytes-held, seenOf}
@@ -100,6 +100,13 @@ module _ (s : St) (r : Option Answer) (φ : Frame) (o : Out) where
       go false false true true q k = refl
       go false false false true q k = f q
 
+-- 5 and 7 to 10 fit a reply
+pub numbered-narrow : (v : Seen) (q : Option Call) → NarrowRefusal (numbered v q)
+numbered-narrow v none = by-number {n = 5} (omega arith)
+numbered-narrow v (some (call q)) = request-narrow _ q
+numbered-narrow v (some (nextEntry x)) = lets
+numbered-narrow v (some nextChunk) = lets
+
 -- ---- one session, and what is lent to it
 
 module _ (s : Session) (own : Own s) (lent rx msg : List ℕ) (short : U64 (length lent)) (bytes : Bytes rx) where
@@ -116,6 +123,12 @@ module _ (s : Session) (own : Own s) (lent rx msg : List ℕ) (short : U64 (leng
   behind r =
       orElse (refuse (misfit s (length rx) (length msg)) (refused 3))
       (orElse (refuse (s .ended) (refused 6)) (orElse (refuse (not (isIdle (s .pending))) (refused 4)) r))
+
+  pub behind-narrow : (r : Option Answer) → NarrowRefusal r → NarrowRefusal (behind r)
+  behind-narrow r x =
+      or-narrow (refuse-narrow (misfit s (length rx) (length msg)) (by-number {n = 3} (omega arith)))
+      (or-narrow (refuse-narrow (s .ended) (by-number {n = 6} (omega arith)))
+      (or-narrow (refuse-narrow (not (isIdle (s .pending))) (by-number {n = 4} (omega arith))) x))
 
   abbrev pub begins : Frame
   begins = frameOf (begun s (length lent))
@@ -234,6 +247,12 @@ module _ (s : Session) (own : Own s) (lent rx msg : List ℕ) (short : U64 (leng
   later r =
       orElse (refuse (misfit s (length rx) (length msg) || (not (isIdle (s .pending)) && not (eqb (length lent) (s .lent)))) (refused 3))
       (orElse (refuse (s .ended) (refused 6)) r)
+
+  pub later-narrow : (sh : Show) (r : Report) → NarrowRefusal (later (misplaced sh r))
+  later-narrow sh r =
+      or-narrow (refuse-narrow (misfit s (length rx) (length msg) || (not (isIdle (s .pending)) && not (eqb (length lent) (s .lent)))) (by-number {n = 3} (omega arith)))
+      (or-narrow (refuse-narrow (s .ended) (by-number {n = 6} (omega arith)))
+      (or-narrow (refuse-narrow (not (awaited sh r)) (by-number {n = 5} (omega arith))) (refuse-narrow (outside sh r) (by-number {n = 11} (omega arith)))))
 
   abbrev pub reported : Report → Out
   reported (hasRead k) = reportRead here (length lent) k
