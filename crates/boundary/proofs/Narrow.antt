@@ -96,7 +96,7 @@ number-fits n k off s b h = rw (sym (number-in n k off s h)) (le-below k (drop o
 bytes-fewer : (m n : ℕ) (s : List ℕ) → m ≤ n → Bytes (take n s) → Bytes (take m s)
 bytes-fewer m n s h b = subst Bytes (take-take m n s h) (bytes-take m (take n s) b)
 
-signed-fits : (x : ℕ) → U64 x → I64 (signed x)
+pub signed-fits : (x : ℕ) → U64 x → I64 (signed x)
 signed-fits x h = go (decLe 0x8000_0000_0000_0000 x)
   where
     go : Dec (0x8000_0000_0000_0000 ≤ x) → I64 (signed x)

@@ -33,7 +33,7 @@ use Rattle.session.specs.declared.Reply.the-variants as R
 use Rattle.session.specs.declared.Session.{Session}
 use Rattle.session.specs.declared.Version.{Version}
 use Rattle.session.specs.declared.Want.the-variants as W
-use Rattle.session.specs.Calls.{misfit, isIdle, callRefusal, unless, refusalOf, settingOf, answerOf, orRefuse, startCall, entryCall, chunkCall}
+use Rattle.session.specs.Calls.{misfit, isIdle, callRefusal, unless, refusalOf, settingOf, orRefuse, startCall, entryCall, chunkCall}
 use Rattle.session.specs.Reports.{reportRefusal, refusalAt, refusedOut, readIn, readAt, reportRead, closedOut, wroteAt, reportWrote, faultAnswer, pushFault, quitFault, writeFault, faultAt, reportFault}
 use Rattle.session.specs.State.{St, st, Out, out, beside, at, begun, shut, refusing}
 use Rattle.session.specs.Steps.{readOn, tidied, carried, sent, told}

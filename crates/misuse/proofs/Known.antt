@@ -1,12 +1,12 @@
 -- What the host has seen, beside the session in the record: it says all that refusals depend on.
 -- Assumes nothing.
-use Prim.Native.Nat.{ℕ, _-_, _<_, _^_}
+use Prim.Native.Nat.{ℕ, _<_, _^_}
 use mathlib.Core.Bool.{Bool, true, false, _||_, not}
 use mathlib.Core.List.{List}
 use mathlib.Core.Path.{_≡_, refl}
 use native.Mathlib.Omega.{arith}
 use borrow.Author.Tests.{le-ltb}
-use lib.Dec.{eqb, ltb}
+use lib.Dec.{eqb}
 use lib.ListN.{length}
 use Rattle.protocol.specs.Bytes.{Bytes, pick}
 use Rattle.protocol.proofs.Bodies.{pick-cases}
@@ -22,16 +22,17 @@ use Rattle.session.specs.declared.Session.{Session}
 use Rattle.session.specs.Calls.{misfit, isIdle}
 use Rattle.session.specs.Host.{Show}
 use Rattle.session.specs.State.{St, st, Fits}
+use Rattle.session.proofs.Misfit.{misfit-fits}
 use Rattle.session.proofs.Turns.{Frame, frameOf}
 use Rattle.boundary.proofs.Steps.{Inv, narrow-of, Awaits, idle, reads, writes-rx, writes-lent, writes-bytes, closes, Asked}
 use Rattle.misuse.specs.Misuse.{Seen, pending}
 
 -- ---- a session, whatever it is lent
 
+-- one that was opened: its numbers are as wide as their fields, its cursor lies in its buffer
 pub record Own (s : Session) : Type 0 where
   pub narrow : Narrow s
   pub fits : Fits s (s .capacity) (s .message)
-  pub wide : s .message < 2 ^ 63
 
 pub own-of : (s : St) → Inv s → Own (s .ses)
 own-of s x =
@@ -39,7 +40,6 @@ own-of s x =
     record {
       narrow = narrow-of s x;
       fits = record { order = g .order; inside = g .inside; rx = refl; least = g .least; aside = g .aside; msg = refl };
-      wide = x .wide;
     }
 
 -- what is held of bytes are bytes
@@ -47,11 +47,13 @@ pub bytes-held : (b : List ℕ) (c : RecvBuf) → Bytes b → Bytes (heldBytes b
 unfolding heldBytes
 bytes-held b c h = pick-cases Bytes (sound b c) (λ e. bytes-drop (c .head) _ (bytes-take (c .tail) b h)) (λ e i. omega arith)
 
-pub inv-of : (s : Session) (rx msg : List ℕ) → Own s → Fits s (length rx) (length msg) → Bytes rx → Inv (st s rx msg)
-inv-of s rx msg o f b =
-    record { good = f; wide = o .wide; lent = o .narrow .lent; pending = o .narrow .pending; bytes = bytes-held rx (s .buf) b }
+-- lent buffers that it fits
+pub inv-of : (s : Session) (rx msg : List ℕ) → Narrow s → length msg < 2 ^ 63 → Bytes rx → misfit s (length rx) (length msg) ≡ false → Inv (st s rx msg)
+inv-of s rx msg n w b e =
+    let f = misfit-fits s (length rx) (length msg) e in
+    record { good = f; wide = omega (arith, f); lent = n .lent; pending = n .pending; bytes = bytes-held rx (s .buf) b }
 
--- such a session is misfit where a buffer has another length
+-- a session that was opened is misfit where a buffer has another length
 pub misfit-own : (s : Session) (x m : ℕ) → Own s → misfit s x m ≡ (not (eqb x (s .capacity)) || not (eqb m (s .message)))
 unfolding misfit
 misfit-own s x m o =

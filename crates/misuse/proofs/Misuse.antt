@@ -1,10 +1,10 @@
 -- The claim: from the opening on, event after event, the exported functions refuse by the table and by nothing else.
 -- Assumes nothing.
-use Prim.Native.Nat.{ℕ, _*_, _≤_, _<_, _^_}
-use mathlib.Core.Bool.{Bool, true, false, true≢false, _||_, not}
+use Prim.Native.Nat.{ℕ, _≤_, _<_, _^_}
+use mathlib.Core.Bool.{Bool, true, false, not}
 use mathlib.Core.List.{List, [], _∷_}
-use mathlib.Core.Option.{Option, none, some}
-use mathlib.Core.Path.{_≡_, refl, sym, ap, _∙_, subst}
+use mathlib.Core.Option.{Option, some}
+use mathlib.Core.Path.{_≡_, refl, sym, _∙_, subst}
 use native.Mathlib.Omega.{arith}
 use borrow.Author.Tests.{le-ltb, ltb-false}
 use lib.Dec.{eqb, ltb}
@@ -18,7 +18,6 @@ use Rattle.protocol.specs.Messages.{stat, sta2, list, lis2, recv, ask, rcv2, se
 use Rattle.record.specs.Narrow.{U32, U64}
 use Rattle.record.specs.Record.{stored, size}
 use Rattle.session.specs.declared.Answer.the-variants as A
-use Rattle.session.specs.declared.Reply.{Reply}
 use Rattle.session.specs.declared.Reply.the-variants as R
 use Rattle.session.specs.declared.Session.{Session}
 use Rattle.session.specs.Calls.{fresh, openRefusal, misfit}
@@ -29,42 +28,17 @@ use Rattle.session.specs.State.{St, st, Out}
 use Rattle.session.proofs.Demand3.{features-listed}
 use Rattle.session.proofs.Turns.{Frame, frameOf}
 use Rattle.boundary.specs.Boundary.{callNumber, firstNumber, flagNumber, stepOf}
-use Rattle.boundary.specs.Crossing.{Crossed, turnedAway, isRefusal, back, OpenCrossed, crossOpen, crossStart, crossRead, crossWrote, crossFault}
+use Rattle.boundary.specs.Crossing.{Crossed, turnedAway, back, OpenCrossed, crossOpen, crossStart, crossRead, crossWrote, crossFault}
 use Rattle.boundary.specs.Heard.{answerHeard, heard}
 use Rattle.boundary.specs.Told.{replyNumber, outSize}
 use Rattle.boundary.proofs.Carried.{image, loads, back-image, read-back}
 use Rattle.boundary.proofs.Heard.{heard-told}
 use Rattle.boundary.proofs.Reports.{NarrowRefusal, lets, by-number, by-feature}
 use Rattle.boundary.proofs.Steps.{Asked, idle, fine}
-use Rattle.misuse.specs.Misuse.{Report, hasRead, wrote, fault, Act, start, report, Event, WideAct, Wide, AllWide, crossedBy, Seen, opened, pending, openRefused, misfits, otherLent, callOf, numbered, awaited, outside, refusedAt, refusal, heardOf, Answers, seenAfter, follow, Every, Opens, Claim}
+use Rattle.misuse.specs.Misuse.{Report, hasRead, wrote, fault, Act, start, report, Event, WideAct, AllWide, crossedBy, Seen, opened, pending, openRefused, misfits, callOf, numbered, refusal, heardOf, Answers, seenAfter, follow, Every, Opens, Claim}
 use Rattle.misuse.proofs.Known.{Own, own-of, misfit-own, seenOf, Knows, knows, pending-is}
+use Rattle.misuse.proofs.Unchanged.{not-refused, event-kept}
 use Rattle.misuse.proofs.Table.{Comes, numbered-narrow, behind, behind-narrow, begins, calls, after, misplaced, later, later-narrow, reported, reports}
-
--- ---- numbers
-
--- an answer that is no refusal has none of the numbers 1 to 11
-not-refused : (r : Reply) → isRefusal r ≡ false → (n : ℕ) → 0 < n → n < 12 → replyNumber r ≡ 256 * n → ⊥
-unfolding replyNumber
-not-refused (R.Told A.Done) g n a b e = omega arith
-not-refused (R.Told A.End) g n a b e = omega arith
-not-refused (R.Told (A.StatV1 s)) g n a b e = omega arith
-not-refused (R.Told (A.StatV2 s)) g n a b e = omega arith
-not-refused (R.Told (A.EntryV1 s at len)) g n a b e = omega arith
-not-refused (R.Told (A.EntryV2 s at len)) g n a b e = omega arith
-not-refused (R.Told (A.Chunk at len)) g n a b e = omega arith
-not-refused (R.Told (A.Refused k)) g n a b e = true≢false g
-not-refused (R.Told (A.Missing k)) g n a b e = true≢false g
-not-refused (R.Told A.Closed) g n a b e = omega arith
-not-refused (R.Told (A.Error c)) g n a b e = omega arith
-not-refused (R.Told (A.Fail len)) g n a b e = omega arith
-not-refused (R.Told (A.Unexpected i j k l)) g n a b e = omega arith
-not-refused (R.Told (A.Errno c)) g n a b e = omega arith
-not-refused (R.Told A.TooLarge) g n a b e = omega arith
-not-refused (R.Read at len) g n a b e = omega arith
-not-refused (R.WriteRx at len) g n a b e = omega arith
-not-refused (R.WriteLent at len) g n a b e = omega arith
-not-refused (R.WriteBytes p) g n a b e = omega arith
-not-refused R.Close g n a b e = omega arith
 
 -- ---- one event
 
@@ -83,23 +57,23 @@ module _ (s : Session) (sh : Show) (own : Own s) (asked : Asked s sh) (lent rx m
   ev x = record { act = x; lent = lent; rx = rx; msg = msg; out = out }
 
   -- a slice that is too short for a reply
-  module _ (short : ltb (length out) outSize ≡ true) where
+  module _ (brief : ltb (length out) outSize ≡ true) where
     away : (x : Act) → crossedBy (stored s) (ev x) ≡ turnedAway (stored s) rx msg out
     unfolding crossStart crossRead crossWrote crossFault
-    away (start n a b) = rw short
-    away (report (hasRead k)) = rw short
-    away (report wrote) = rw short
-    away (report (fault f)) = rw short
+    away (start n a b) = rw brief
+    away (report (hasRead k)) = rw brief
+    away (report wrote) = rw brief
+    away (report (fault f)) = rw brief
 
     three : (x : Act) → refusal v (ev x) ≡ some (refused 3)
-    three (start n a b) = rw short
-    three (report r) = rw short
+    three (start n a b) = rw brief
+    three (report r) = rw brief
 
     short-holds : (x : Act) → Holds v (stored s) (ev x) (refusal v (ev x)) (crossedBy (stored s) (ev x))
     unfolding heard answerHeard
-    short-holds x = rw (three x, away x) ((refl, refl, refl, refl, refl), knows s sh own asked)
+    short-holds x = rw (three x, away x) ((refl, refl, (refl, refl, refl)), knows s sh own asked)
 
-  module _ (room : outSize ≤ length out) (few : U64 (length lent)) (bytes : Bytes rx) where
+  module _ (room : outSize ≤ length out) (short : U64 (length lent)) (few : length msg < 2 ^ 63) (bytes : Bytes rx) where
     -- the table's tests are the session's
     fits-same : (x : Act) → misfits v (ev x) ≡ misfit s (length rx) (length msg)
     fits-same x = rw (le-ltb (length out) outSize room, misfit-own s (length rx) (length msg) own)
@@ -118,10 +92,10 @@ module _ (s : Session) (sh : Show) (own : Own s) (asked : Asked s sh) (lent rx m
           )
       comes-holds r (by-number {n = n} h) g =
           subst (λ (y : Out). Holds v (stored s) (ev x) r (back (stored s) out y)) (sym g)
-          ((refl, heard-told out room rx msg (R.Told (A.Refused n)) h, refl, refl, refl), knows s sh own asked)
+          ((refl, heard-told out room rx msg (R.Told (A.Refused n)) h, (refl, refl, refl)), knows s sh own asked)
       comes-holds r (by-feature {n = n} h) g =
           subst (λ (y : Out). Holds v (stored s) (ev x) r (back (stored s) out y)) (sym g)
-          ((refl, heard-told out room rx msg (R.Told (A.Missing n)) h, refl, refl, refl), knows s sh own asked)
+          ((refl, heard-told out room rx msg (R.Told (A.Missing n)) h, (refl, refl, refl)), knows s sh own asked)
 
       holds : (c : Crossed) (r : Option Answer) → c ≡ back (stored s) out o → refusal v (ev x) ≡ r → NarrowRefusal r → Comes r φ here o
           → Holds v (stored s) (ev x) (refusal v (ev x)) c
@@ -130,21 +104,21 @@ module _ (s : Session) (sh : Show) (own : Own s) (asked : Asked s sh) (lent rx m
           (subst (λ (y : Option Answer). Holds v (stored s) (ev x) y (back (stored s) out o)) (sym t) (comes-holds r n g))
 
     -- a call
-    call-table : (n a b : ℕ) → refusal v (ev (start n a b)) ≡ behind s own lent rx msg few bytes (numbered v (callOf n a b lent))
+    call-table : (n a b : ℕ) → refusal v (ev (start n a b)) ≡ behind s (own .narrow) lent rx msg short few bytes (numbered v (callOf n a b lent))
     call-table n a b = rw (fits-same (start n a b), pending-is asked)
 
     call-holds : (n a b : ℕ) → U32 a → U32 b
         → Holds v (stored s) (ev (start n a b)) (refusal v (ev (start n a b))) (crossedBy (stored s) (ev (start n a b)))
     unfolding crossStart
     call-holds n a b p q =
-        holds (start n a b) (begins s own lent rx msg few bytes) _ (λ y. refl) _ _ (loads here (own .narrow) out room _) (call-table n a b)
-        (behind-narrow s own lent rx msg few bytes _ (numbered-narrow v (callOf n a b lent))) (calls s own lent rx msg few bytes sh a b p q n)
+        holds (start n a b) (begins s (own .narrow) lent rx msg short few bytes) _ (λ y. refl) _ _ (loads here (own .narrow) out room _) (call-table n a b)
+        (behind-narrow s (own .narrow) lent rx msg short few bytes _ (numbered-narrow v (callOf n a b lent))) (calls s (own .narrow) lent rx msg short few bytes sh a b p q n)
 
     -- a report
-    report-table : (r : Report) → refusal v (ev (report r)) ≡ later s own lent rx msg few bytes (misplaced s own lent rx msg few bytes sh r)
+    report-table : (r : Report) → refusal v (ev (report r)) ≡ later s (own .narrow) lent rx msg short few bytes (misplaced s (own .narrow) lent rx msg short few bytes sh r)
     report-table r = rw (fits-same (report r), pending-is asked)
 
-    report-crosses : (r : Report) → crossedBy (stored s) (ev (report r)) ≡ back (stored s) out (reported s own lent rx msg few bytes r)
+    report-crosses : (r : Report) → crossedBy (stored s) (ev (report r)) ≡ back (stored s) out (reported s (own .narrow) lent rx msg short few bytes r)
     unfolding crossRead crossWrote crossFault
     report-crosses (hasRead k) = loads here (own .narrow) out room _ ∙ read-back here out (length lent) k
     report-crosses wrote = loads here (own .narrow) out room _
@@ -153,22 +127,22 @@ module _ (s : Session) (sh : Show) (own : Own s) (asked : Asked s sh) (lent rx m
     event-holds : (x : Act) → WideAct x → Holds v (stored s) (ev x) (refusal v (ev x)) (crossedBy (stored s) (ev x))
     event-holds (start n a b) (p, q) = call-holds n a b p q
     event-holds (report r) w =
-        holds (report r) (after s own lent rx msg few bytes sh) _ (λ y. refl) _ _ (report-crosses r) (report-table r)
-        (later-narrow s own lent rx msg few bytes sh r) (reports s own lent rx msg few bytes sh asked r w)
+        holds (report r) (after s (own .narrow) lent rx msg short few bytes sh) _ (λ y. refl) _ _ (report-crosses r) (report-table r)
+        (later-narrow s (own .narrow) lent rx msg short few bytes sh r) (reports s (own .narrow) lent rx msg short few bytes sh asked r w)
 
-  any-holds : (x : Act) → WideAct x → U64 (length lent) → Bytes rx → Holds v (stored s) (ev x) (refusal v (ev x)) (crossedBy (stored s) (ev x))
-  any-holds x w few bytes = go (ltb (length out) outSize) refl
+  any-holds : (x : Act) → WideAct x → U64 (length lent) → length msg < 2 ^ 63 → Bytes rx → Holds v (stored s) (ev x) (refusal v (ev x)) (crossedBy (stored s) (ev x))
+  any-holds x w short few bytes = go (ltb (length out) outSize) refl
     where
       go : (b : Bool) → ltb (length out) outSize ≡ b → Holds v (stored s) (ev x) (refusal v (ev x)) (crossedBy (stored s) (ev x))
       go true e = short-holds e x
-      go false e = event-holds (ltb-false _ _ e) few bytes x w
+      go false e = event-holds (ltb-false _ _ e) short few bytes x w
 
 -- ---- every list of them
 
 every : (v : Seen) (rec : List ℕ) (es : List Event) → Knows v rec → AllWide es → Every v rec es
 every v rec [] k w = tt
 every v rec (e ∷ es) (knows s sh own asked) (w, ws) =
-    let (a, k) = any-holds s sh own asked (e .lent) (e .rx) (e .msg) (e .out) (e .act) (w .act) (omega (arith, w .lent)) (w .rx) in
+    let (a, k) = any-holds s sh own asked (e .lent) (e .rx) (e .msg) (e .out) (e .act) (w .act) (omega (arith, w .lent)) (w .msg) (w .rx) in
     (a, every _ _ es k ws)
 
 -- ---- from the opening on
@@ -197,7 +171,6 @@ module _ (rec banner : List ℕ) (c m : ℕ) (wide : m < 2 ^ 63) where
       record {
         narrow = record { capacity = omega arith; message = omega arith; head = omega arith; tail = omega arith; lent = omega arith; pending = tt };
         fits = record { order = omega arith; inside = omega arith; rx = refl; least = l; aside = r; msg = refl };
-        wide = wide;
       }
 
   opened-known : crossOpen rec banner c m .number ≡ 0 → Knows (opened banner c m) (crossOpen rec banner c m .rec)
@@ -235,5 +208,6 @@ misuse =
     record {
       calls = call-numbers;
       opens = open-answers;
+      unchanged = λ rec b e w. event-kept rec b e w (e .act) (w .act);
       every = λ rec banner c m wide z es w. every (opened banner c m) (crossOpen rec banner c m .rec) es (opened-known rec banner c m wide z) w;
     }

@@ -1,6 +1,6 @@
 -- A step of the session is refused as the table says, and leaves everything as it was, or is let in.
 -- Assumes nothing.
-use Prim.Native.Nat.{ℕ, zero, suc, _+_, _-_, _<_, _^_}
+use Prim.Native.Nat.{ℕ, zero, suc, _-_, _<_, _^_}
 use mathlib.Core.Bool.{Bool, true, false, true≢false, _&&_, _||_, not}
 use mathlib.Core.List.{List}
 use mathlib.Core.Option.{Option, none, some}
@@ -14,13 +14,11 @@ use Rattle.protocol.specs.Answers.{Answer, refused}
 use Rattle.protocol.specs.Bytes.{Bytes, pick}
 use Rattle.protocol.specs.Calls.{Call, call, nextEntry, nextChunk, orElse, refuse, requestRefusal}
 use Rattle.record.specs.Fields.{modeOf, flagsOf}
-use Rattle.record.specs.Narrow.{U32, U64, NarrowRequest, NarrowPending}
-use Rattle.recv_buf.specs.RecvBuf.{cursor, heldBytes}
+use Rattle.record.specs.Narrow.{U32, U64, NarrowRequest, NarrowPending, Narrow}
 use Rattle.request.specs.Meaning.{meant}
 use Rattle.request.specs.declared.Request.{Request}
 use Rattle.request.specs.declared.Request.the-variants as Q
 use Rattle.session.specs.declared.Answer.the-variants as A
-use Rattle.session.specs.declared.Fault.{Fault}
 use Rattle.session.specs.declared.Pending.{Pending}
 use Rattle.session.specs.declared.Session.{Session}
 use Rattle.session.specs.declared.Version.{Version}
@@ -30,14 +28,13 @@ use Rattle.session.specs.Core.{faultOf}
 use Rattle.session.specs.Host.{Show}
 use Rattle.session.specs.Reports.{reportRefusal, refusalAt, readIn, readAt, reportRead, wroteAt, reportWrote, faultAt, reportFault}
 use Rattle.session.specs.State.{St, st, Out, out, begun, refusing}
-use Rattle.session.proofs.Misfit.{misfit-fits}
 use Rattle.session.proofs.Turns.{Frame, frameOf}
 use Rattle.boundary.specs.Crossing.{requestNumbered, callNumbered, unknownCall}
 use Rattle.boundary.proofs.Logs.{coded-narrow}
 use Rattle.boundary.proofs.Reports.{NarrowRefusal, lets, by-number, or-narrow, refuse-narrow, request-narrow, NarrowFault, start-goes, entry-goes, chunk-goes, read-in-refused, read-in-goes, closed-goes, write-fault-goes, read-fault-goes, close-fault-goes}
 use Rattle.boundary.proofs.Steps.{Inv, Goes, Awaits, idle, reads, writes-rx, writes-lent, writes-bytes, closes, Asked, wrote-on-goes}
 use Rattle.misuse.specs.Misuse.{Report, hasRead, wrote, fault, report, WideAct, Seen, pending, closing, callOf, numbered, awaited, outside}
-use Rattle.misuse.proofs.Known.{Own, inv-of, bytes-held, seenOf}
+use Rattle.misuse.proofs.Known.{inv-of, bytes-held, seenOf}
 
 -- ---- what a step comes to
 
@@ -109,12 +106,12 @@ numbered-narrow v (some nextChunk) = lets
 
 -- ---- one session, and what is lent to it
 
-module _ (s : Session) (own : Own s) (lent rx msg : List ℕ) (short : U64 (length lent)) (bytes : Bytes rx) where
+module _ (s : Session) (narrow : Narrow s) (lent rx msg : List ℕ) (short : U64 (length lent)) (few : length msg < 2 ^ 63) (bytes : Bytes rx) where
   abbrev pub here : St
   here = st s rx msg
 
-  inv : unfit here none (frameOf s) (unknownCall here) ≡ false → Inv here
-  inv e = inv-of s rx msg own (misfit-fits s (length rx) (length msg) e) bytes
+  inv : misfit s (length rx) (length msg) ≡ false → Inv here
+  inv e = inv-of s rx msg narrow few bytes e
 
   -- ---- the calls
 
@@ -262,7 +259,7 @@ module _ (s : Session) (own : Own s) (lent rx msg : List ℕ) (short : U64 (leng
   pub reports : (sh : Show) → Asked s sh → (r : Report) → WideAct (report r) → Comes (later (misplaced sh r)) (after sh) here (reported r)
   unfolding reportRead reportWrote reportFault
   reports sh a (hasRead k) w =
-      report-comes here _ (after sh) _ (length lent) (none-awaited a (hasRead k)) (λ e. read-comes (inv e) k a (own .narrow .pending))
-  reports sh a wrote w = report-comes here _ (after sh) _ (length lent) (none-awaited a wrote) (λ e. wrote-comes (inv e) a (own .narrow .pending))
+      report-comes here _ (after sh) _ (length lent) (none-awaited a (hasRead k)) (λ e. read-comes (inv e) k a (narrow .pending))
+  reports sh a wrote w = report-comes here _ (after sh) _ (length lent) (none-awaited a wrote) (λ e. wrote-comes (inv e) a (narrow .pending))
   reports sh a (fault f) w =
-      report-comes here _ (after sh) _ (length lent) (none-awaited a (fault f)) (λ e. fault-comes (inv e) f (coded-narrow f w) a (own .narrow .pending))
+      report-comes here _ (after sh) _ (length lent) (none-awaited a (fault f)) (λ e. fault-comes (inv e) f (coded-narrow f w) a (narrow .pending))

@@ -1,7 +1,7 @@
 -- What a caller is refused: document 01's "Answers, by who can cause them", as a table over what the host has seen, and the claim that the
 -- exported functions answer by it, whatever is called, reported and lent. Nothing here looks inside a session.
 -- Assumes nothing.
-use Prim.Native.Nat.{ℕ, _*_, _≤_, _<_, _^_}
+use Prim.Native.Nat.{ℕ, _*_, _<_, _^_}
 use mathlib.Core.Bool.{Bool, true, false, _&&_, _||_, not}
 use mathlib.Core.List.{List, [], _∷_}
 use mathlib.Core.Option.{Option, none, some}
@@ -10,8 +10,8 @@ use lib.Dec.{eqb, ltb}
 use lib.ListN.{length, getD}
 use Rattle.protocol.specs.Answers as A
 use Rattle.protocol.specs.Answers.{Answer, End, refused, number}
-use Rattle.protocol.specs.Bytes.{Bytes, pick}
-use Rattle.protocol.specs.Calls.{v1, v2, Call, call, nextEntry, nextChunk, Setting, orElse, refuse, callRefusal}
+use Rattle.protocol.specs.Bytes.{Bytes}
+use Rattle.protocol.specs.Calls.{v1, v2, Call, call, nextEntry, nextChunk, orElse, refuse, callRefusal}
 use Rattle.protocol.specs.Features.{featuresOf}
 use Rattle.protocol.specs.Ids.{published}
 use Rattle.protocol.specs.Messages.{stat, sta2, list, lis2, recv, ask, rcv2, send, snd2, chunk, done, quit}
@@ -45,7 +45,7 @@ pub record Event : Type 0 where
   pub msg : List ℕ
   pub out : List ℕ
 
--- the widths of what is passed
+-- the widths of what is passed (no slice has 2^63 bytes)
 abbrev pub WideAct : Act → Type 0
 WideAct (start n a b) = (a < 2 ^ 32) × (b < 2 ^ 32)
 WideAct (report (hasRead k)) = Unit {0}
@@ -55,6 +55,7 @@ WideAct (report (fault e)) = Coded e
 pub record Wide (e : Event) : Type 0 where
   pub act : WideAct (e .act)
   pub lent : length (e .lent) < 2 ^ 63
+  pub msg : length (e .msg) < 2 ^ 63
   pub rx : Bytes (e .rx)
 
 abbrev pub AllWide : List Event → Type 0
@@ -181,11 +182,18 @@ refusal s e = refusedAt s e (e .act)
 abbrev pub heardOf : Crossed → Show
 heardOf c = heard (c .number) (c .out) (c .rx) (c .msg)
 
--- What is answered. A refusal: its number, what is heard of it, and "session and lent bytes unchanged". Where the table has none, none of 1
--- to 11 is answered.
+-- "Session and lent bytes unchanged"
+abbrev pub Unchanged : List ℕ → Event → Crossed → Type 0
+Unchanged rec e c = (c .rec ≡ rec) × (c .rx ≡ e .rx) × (c .msg ≡ e .msg)
+
+-- a number from 1 to 11 is answered
+abbrev pub IsRefused : Crossed → Type 0
+IsRefused c = (n : ℕ) × (0 < n) × (n < 12) × (c .number ≡ 256 * n)
+
+-- What is answered: the table's refusal, by its number and as it is heard; none of 1 to 11 where the table has none.
 abbrev pub Answers : Option Answer → List ℕ → Event → Crossed → Type 0
-Answers (some a) rec e c = (c .number ≡ 256 * number a) × (heardOf c ≡ told a) × (c .rec ≡ rec) × (c .rx ≡ e .rx) × (c .msg ≡ e .msg)
-Answers none rec e c = (n : ℕ) → 0 < n → n < 12 → c .number ≡ 256 * n → ⊥
+Answers (some a) rec e c = (c .number ≡ 256 * number a) × (heardOf c ≡ told a) × Unchanged rec e c
+Answers none rec e c = IsRefused c → ⊥
 
 -- what the host has seen afterwards; a quit has ended once its close is reported
 abbrev pub seenAfter : Seen → Event → Act → Show → Seen
@@ -209,10 +217,13 @@ abbrev pub Opens : Option Answer → List ℕ → OpenCrossed → Type 0
 Opens (some a) rec o = (o .number ≡ number a) × (o .rec ≡ rec)
 Opens none rec o = o .number ≡ 0
 
--- Any record, any banner, any two lengths; where opening answers 0, any list of calls and reports after it. The calls are those of demand 3,
--- by their numbers.
 pub record Claim : Type 0 where
+  -- the calls are those of demand 3, by their numbers
   pub calls : (q : Call) → callOf (callNumber q) (firstNumber q) (flagNumber q) (lentOf q) ≡ some q
+  -- any record, any banner, any two lengths
   pub opens : (rec banner : List ℕ) (c m : ℕ) → Opens (openRefused rec c m) rec (crossOpen rec banner c m)
+  -- where opening answers 0, any list of calls and reports after it
   pub every : (rec banner : List ℕ) (c m : ℕ) → m < 2 ^ 63 → crossOpen rec banner c m .number ≡ 0
       → (es : List Event) → AllWide es → Every (opened banner c m) (crossOpen rec banner c m .rec) es
+  -- and a refusal leaves any record unchanged, also one that no opening left
+  pub unchanged : (rec : List ℕ) → Bytes rec → (e : Event) → Wide e → IsRefused (crossedBy rec e) → Unchanged rec e (crossedBy rec e)
