@@ -104,21 +104,21 @@ module _ (s : Session) (sh : Show) (own : Own s) (asked : Asked s sh) (lent rx m
           (subst (λ (y : Option Answer). Holds v (stored s) (ev x) y (back (stored s) out o)) (sym t) (comes-holds r n g))
 
     -- a call
-    call-table : (n a b : ℕ) → refusal v (ev (start n a b)) ≡ behind s (own .narrow) lent rx msg short few bytes (numbered v (callOf n a b lent))
+    call-table : (n a b : ℕ) → refusal v (ev (start n a b)) ≡ behind s lent rx msg (numbered v (callOf n a b lent))
     call-table n a b = rw (fits-same (start n a b), pending-is asked)
 
     call-holds : (n a b : ℕ) → U32 a → U32 b
         → Holds v (stored s) (ev (start n a b)) (refusal v (ev (start n a b))) (crossedBy (stored s) (ev (start n a b)))
     unfolding crossStart
     call-holds n a b p q =
-        holds (start n a b) (begins s (own .narrow) lent rx msg short few bytes) _ (λ y. refl) _ _ (loads here (own .narrow) out room _) (call-table n a b)
-        (behind-narrow s (own .narrow) lent rx msg short few bytes _ (numbered-narrow v (callOf n a b lent))) (calls s (own .narrow) lent rx msg short few bytes sh a b p q n)
+        holds (start n a b) (begins s lent rx msg) _ (λ y. refl) _ _ (loads here (own .narrow) out room _) (call-table n a b)
+        (behind-narrow s lent rx msg _ (numbered-narrow v (callOf n a b lent))) (calls s lent rx msg (own .narrow) short few bytes sh a b p q n)
 
     -- a report
-    report-table : (r : Report) → refusal v (ev (report r)) ≡ later s (own .narrow) lent rx msg short few bytes (misplaced s (own .narrow) lent rx msg short few bytes sh r)
+    report-table : (r : Report) → refusal v (ev (report r)) ≡ later s lent rx msg (misplaced sh r)
     report-table r = rw (fits-same (report r), pending-is asked)
 
-    report-crosses : (r : Report) → crossedBy (stored s) (ev (report r)) ≡ back (stored s) out (reported s (own .narrow) lent rx msg short few bytes r)
+    report-crosses : (r : Report) → crossedBy (stored s) (ev (report r)) ≡ back (stored s) out (reported s lent rx msg r)
     unfolding crossRead crossWrote crossFault
     report-crosses (hasRead k) = loads here (own .narrow) out room _ ∙ read-back here out (length lent) k
     report-crosses wrote = loads here (own .narrow) out room _
@@ -127,8 +127,8 @@ module _ (s : Session) (sh : Show) (own : Own s) (asked : Asked s sh) (lent rx m
     event-holds : (x : Act) → WideAct x → Holds v (stored s) (ev x) (refusal v (ev x)) (crossedBy (stored s) (ev x))
     event-holds (start n a b) (p, q) = call-holds n a b p q
     event-holds (report r) w =
-        holds (report r) (after s (own .narrow) lent rx msg short few bytes sh) _ (λ y. refl) _ _ (report-crosses r) (report-table r)
-        (later-narrow s (own .narrow) lent rx msg short few bytes sh r) (reports s (own .narrow) lent rx msg short few bytes sh asked r w)
+        holds (report r) (after s sh) _ (λ y. refl) _ _ (report-crosses r) (report-table r)
+        (later-narrow s lent rx msg sh r) (reports s lent rx msg (own .narrow) short few bytes sh asked r w)
 
   any-holds : (x : Act) → WideAct x → U64 (length lent) → length msg < 2 ^ 63 → Bytes rx → Holds v (stored s) (ev x) (refusal v (ev x)) (crossedBy (stored s) (ev x))
   any-holds x w short few bytes = go (ltb (length out) outSize) refl

@@ -104,18 +104,34 @@ numbered-narrow v (some (call q)) = request-narrow _ q
 numbered-narrow v (some (nextEntry x)) = lets
 numbered-narrow v (some nextChunk) = lets
 
+-- ---- the reports' answers
+
+-- 5 and 11
+abbrev pub misplaced : Show → Report → Option Answer
+misplaced sh r = orElse (refuse (not (awaited sh r)) (refused 5)) (refuse (outside sh r) (refused 11))
+
+-- nothing is awaited where nothing is pending
+none-awaited : {t w : ℕ} {p : Pending} {sh : Show} → Awaits t w p sh → (r : Report) → isIdle p ≡ true → misplaced sh r ≡ some (refused 5)
+none-awaited idle (hasRead k) e = refl
+none-awaited idle wrote e = refl
+none-awaited idle (fault f) e = refl
+none-awaited reads r e = absurd (true≢false (sym e))
+none-awaited writes-rx r e = absurd (true≢false (sym e))
+none-awaited writes-lent r e = absurd (true≢false (sym e))
+none-awaited writes-bytes r e = absurd (true≢false (sym e))
+none-awaited closes r e = absurd (true≢false (sym e))
+
+-- what is kept: a quit has ended once its close is reported
+abbrev pub after : Session → Show → Frame
+after s sh = record { capacity = s .capacity; message = s .message; lent = s .lent; features = s .features; ended = closing sh || s .ended }
+
 -- ---- one session, and what is lent to it
 
-module _ (s : Session) (narrow : Narrow s) (lent rx msg : List ℕ) (short : U64 (length lent)) (few : length msg < 2 ^ 63) (bytes : Bytes rx) where
+module _ (s : Session) (lent rx msg : List ℕ) where
   abbrev pub here : St
   here = st s rx msg
 
-  inv : misfit s (length rx) (length msg) ≡ false → Inv here
-  inv e = inv-of s rx msg narrow few bytes e
-
-  -- ---- the calls
-
-  -- their refusals, and then r
+  -- the calls' refusals, and then r
   abbrev pub behind : Option Answer → Option Answer
   behind r =
       orElse (refuse (misfit s (length rx) (length msg)) (refused 3))
@@ -127,119 +143,7 @@ module _ (s : Session) (narrow : Narrow s) (lent rx msg : List ℕ) (short : U64
       (or-narrow (refuse-narrow (s .ended) (by-number {n = 6} (omega arith)))
       (or-narrow (refuse-narrow (not (isIdle (s .pending))) (by-number {n = 4} (omega arith))) x))
 
-  abbrev pub begins : Frame
-  begins = frameOf (begun s (length lent))
-
-  starts : (q : Request) → NarrowRequest q → Comes (behind (requestRefusal (settingOf s) (meant q lent))) begins here (startCall here q lent)
-  unfolding startCall
-  starts q n = call-comes here _ begins _ (λ e. or-comes (requestRefusal (settingOf s) (meant q lent)) begins here _ (start-goes here (inv e) q lent n short))
-
-  enters : (v : Version) → Comes (behind none) begins here (entryCall here v (length lent))
-  unfolding entryCall
-  enters v = call-comes here none begins _ (λ e. entry-goes here (inv e) v (length lent) short)
-
-  chunks : Comes (behind none) begins here (chunkCall here (length lent))
-  unfolding chunkCall
-  chunks = call-comes here none begins _ (λ e. chunk-goes here (inv e) (length lent) short)
-
-  unknown : Comes (behind (some (refused 5))) begins here (unknownCall here)
-  unknown = call-comes here (some (refused 5)) begins _ (λ e. refl)
-
-  module _ (sh : Show) (a b : ℕ) (x : U32 a) (y : U32 b) where
-    abbrev pub Called : ℕ → Type 0
-    Called n =
-        Comes (behind (numbered (seenOf (frameOf s) sh) (callOf n a b lent))) begins here
-        (callNumbered n a b here lent (requestNumbered n a b) (unknownCall here))
-
-    pub calls : (n : ℕ) → Called n
-    calls =
-        first 15 Called (
-          unknown,
-          (
-            starts Q.Stat tt,
-            (
-              starts Q.Sta2 tt,
-              (
-                starts Q.List tt,
-                (
-                  starts Q.Lis2 tt,
-                  (
-                    starts Q.Recv tt,
-                    (
-                      starts (Q.Rcv2 (flagsOf b)) y,
-                      (
-                        starts (Q.Send (modeOf a)) x,
-                        (
-                          starts (Q.Snd2 (modeOf a) (flagsOf b)) (x, y),
-                          (starts Q.Data tt, (starts (Q.Done a) x, (starts Q.Quit tt, (enters V1, (enters V2, (chunks, tt)))))),
-                        ),
-                      ),
-                    ),
-                  ),
-                ),
-              ),
-            ),
-          ),
-        )
-        (λ n. rw (ne-eqb (above 15 n) 12 (omega arith), ne-eqb (above 15 n) 13 (omega arith), ne-eqb (above 15 n) 14 (omega arith)) unknown)
-
-  -- ---- the reports
-
-  -- what is kept: a quit has ended once its close is reported
-  abbrev pub after : Show → Frame
-  after sh = record { capacity = s .capacity; message = s .message; lent = s .lent; features = s .features; ended = closing sh || s .ended }
-
-  -- 5 and 11
-  abbrev pub misplaced : Show → Report → Option Answer
-  misplaced sh r = orElse (refuse (not (awaited sh r)) (refused 5)) (refuse (outside sh r) (refused 11))
-
-  module _ (good : Inv here) where
-    read-comes : {p : Pending} {sh : Show} (k : ℕ) → Awaits (s .buf .tail) (s .capacity - s .buf .tail) p sh → NarrowPending p
-        → Comes (misplaced sh (hasRead k)) (after sh) here (readAt p here k)
-    unfolding readAt
-    read-comes k idle n = refl
-    read-comes k (reads {p = p} {until = until} {lost = lost}) n = go (eqb k 0 || ltb (s .capacity - s .buf .tail) k) refl
-      where
-        go : (b : Bool) → (eqb k 0 || ltb (s .capacity - s .buf .tail) k) ≡ b → Comes (refuse b (refused 11)) (frameOf s) here (readIn here p until lost k)
-        go true e = read-in-refused here p until lost k e
-        go false e = read-in-goes here good k (bytes-held rx _ bytes) p until lost (n .0) (n .1) e
-    read-comes k writes-rx n = refl
-    read-comes k writes-lent n = refl
-    read-comes k writes-bytes n = refl
-    read-comes k closes n = refl
-
-    wrote-comes : {p : Pending} {sh : Show} → Awaits (s .buf .tail) (s .capacity - s .buf .tail) p sh → NarrowPending p
-        → Comes (misplaced sh wrote) (after sh) here (wroteAt p here lent)
-    unfolding wroteAt
-    wrote-comes idle n = refl
-    wrote-comes reads n = refl
-    wrote-comes (writes-rx {q = q} {from = from} {k = k}) n = wrote-on-goes here from lent good (n .1 .0) short q k (n .0)
-    wrote-comes (writes-lent {q = q} {from = from} {k = k}) n = wrote-on-goes here from lent good (n .1 .0) short q k (n .0)
-    wrote-comes (writes-bytes {q = q} {from = from} {k = k}) n = wrote-on-goes here from lent good (n .1 .0) short q k (n .0)
-    wrote-comes (closes {failed = failed} {code = code}) n = closed-goes here good failed code A.Done n (tt, refl)
-
-    fault-comes : {p : Pending} {sh : Show} (f : P.End) → NarrowFault (faultOf f) → Awaits (s .buf .tail) (s .capacity - s .buf .tail) p sh → NarrowPending p
-        → Comes (misplaced sh (fault f)) (after sh) here (faultAt p here (faultOf f))
-    unfolding faultAt
-    fault-comes f c idle n = refl
-    fault-comes f c (reads {lost = lost}) n = read-fault-goes here good (faultOf f) c lost
-    fault-comes f c (writes-rx {q = q}) n = write-fault-goes here good (faultOf f) c q
-    fault-comes f c (writes-lent {q = q}) n = write-fault-goes here good (faultOf f) c q
-    fault-comes f c (writes-bytes {q = q}) n = write-fault-goes here good (faultOf f) c q
-    fault-comes f c (closes {failed = failed} {code = code}) n = close-fault-goes here good (faultOf f) c failed code n
-
-  -- nothing is awaited where nothing is pending
-  none-awaited : {t w : ℕ} {p : Pending} {sh : Show} → Awaits t w p sh → (r : Report) → isIdle p ≡ true → misplaced sh r ≡ some (refused 5)
-  none-awaited idle (hasRead k) e = refl
-  none-awaited idle wrote e = refl
-  none-awaited idle (fault f) e = refl
-  none-awaited reads r e = absurd (true≢false (sym e))
-  none-awaited writes-rx r e = absurd (true≢false (sym e))
-  none-awaited writes-lent r e = absurd (true≢false (sym e))
-  none-awaited writes-bytes r e = absurd (true≢false (sym e))
-  none-awaited closes r e = absurd (true≢false (sym e))
-
-  -- their refusals, and then r
+  -- the reports' refusals, and then r
   abbrev pub later : Option Answer → Option Answer
   later r =
       orElse (refuse (misfit s (length rx) (length msg) || (not (isIdle (s .pending)) && not (eqb (length lent) (s .lent)))) (refused 3))
@@ -251,15 +155,92 @@ module _ (s : Session) (narrow : Narrow s) (lent rx msg : List ℕ) (short : U64
       (or-narrow (refuse-narrow (s .ended) (by-number {n = 6} (omega arith)))
       (or-narrow (refuse-narrow (not (awaited sh r)) (by-number {n = 5} (omega arith))) (refuse-narrow (outside sh r) (by-number {n = 11} (omega arith)))))
 
+  abbrev pub begins : Frame
+  begins = frameOf (begun s (length lent))
+
   abbrev pub reported : Report → Out
   reported (hasRead k) = reportRead here (length lent) k
   reported wrote = reportWrote here lent
   reported (fault f) = reportFault here (length lent) (faultOf f)
 
-  pub reports : (sh : Show) → Asked s sh → (r : Report) → WideAct (report r) → Comes (later (misplaced sh r)) (after sh) here (reported r)
-  unfolding reportRead reportWrote reportFault
-  reports sh a (hasRead k) w =
-      report-comes here _ (after sh) _ (length lent) (none-awaited a (hasRead k)) (λ e. read-comes (inv e) k a (narrow .pending))
-  reports sh a wrote w = report-comes here _ (after sh) _ (length lent) (none-awaited a wrote) (λ e. wrote-comes (inv e) a (narrow .pending))
-  reports sh a (fault f) w =
-      report-comes here _ (after sh) _ (length lent) (none-awaited a (fault f)) (λ e. fault-comes (inv e) f (coded-narrow f w) a (narrow .pending))
+  module _ (narrow : Narrow s) (short : U64 (length lent)) (few : length msg < 2 ^ 63) (bytes : Bytes rx) where
+    inv : misfit s (length rx) (length msg) ≡ false → Inv here
+    inv e = inv-of s rx msg narrow few bytes e
+
+    -- ---- the calls
+
+    starts : (q : Request) → NarrowRequest q → Comes (behind (requestRefusal (settingOf s) (meant q lent))) begins here (startCall here q lent)
+    unfolding startCall
+    starts q n = call-comes here _ begins _ (λ e. or-comes (requestRefusal (settingOf s) (meant q lent)) begins here _ (start-goes here (inv e) q lent n short))
+
+    enters : (v : Version) → Comes (behind none) begins here (entryCall here v (length lent))
+    unfolding entryCall
+    enters v = call-comes here none begins _ (λ e. entry-goes here (inv e) v (length lent) short)
+
+    chunks : Comes (behind none) begins here (chunkCall here (length lent))
+    unfolding chunkCall
+    chunks = call-comes here none begins _ (λ e. chunk-goes here (inv e) (length lent) short)
+
+    unknown : Comes (behind (some (refused 5))) begins here (unknownCall here)
+    unknown = call-comes here (some (refused 5)) begins _ (λ e. refl)
+
+    module _ (sh : Show) (a b : ℕ) (x : U32 a) (y : U32 b) where
+      abbrev pub Called : ℕ → Type 0
+      Called n =
+          Comes (behind (numbered (seenOf (frameOf s) sh) (callOf n a b lent))) begins here
+          (callNumbered n a b here lent (requestNumbered n a b) (unknownCall here))
+
+      pub calls : (n : ℕ) → Called n
+      calls =
+          let others : Below 6 (λ n. Called (above 9 n)) =
+          (starts Q.Data tt, (starts (Q.Done a) x, (starts Q.Quit tt, (enters V1, (enters V2, (chunks, tt)))))) in
+          let transfers : Below 9 (λ n. Called (above 6 n)) =
+          (starts (Q.Rcv2 (flagsOf b)) y, (starts (Q.Send (modeOf a)) x, (starts (Q.Snd2 (modeOf a) (flagsOf b)) (x, y), others))) in
+          first 15 Called
+          (unknown, (starts Q.Stat tt, (starts Q.Sta2 tt, (starts Q.List tt, (starts Q.Lis2 tt, (starts Q.Recv tt, transfers))))))
+          (λ n. rw (ne-eqb (above 15 n) 12 (omega arith), ne-eqb (above 15 n) 13 (omega arith), ne-eqb (above 15 n) 14 (omega arith)) unknown)
+
+    -- ---- the reports
+
+    module _ (good : Inv here) where
+      read-comes : {p : Pending} {sh : Show} (k : ℕ) → Awaits (s .buf .tail) (s .capacity - s .buf .tail) p sh → NarrowPending p
+          → Comes (misplaced sh (hasRead k)) (after s sh) here (readAt p here k)
+      unfolding readAt
+      read-comes k idle n = refl
+      read-comes k (reads {p = p} {until = until} {lost = lost}) n = go (eqb k 0 || ltb (s .capacity - s .buf .tail) k) refl
+        where
+          go : (b : Bool) → (eqb k 0 || ltb (s .capacity - s .buf .tail) k) ≡ b → Comes (refuse b (refused 11)) (frameOf s) here (readIn here p until lost k)
+          go true e = read-in-refused here p until lost k e
+          go false e = read-in-goes here good k (bytes-held rx _ bytes) p until lost (n .0) (n .1) e
+      read-comes k writes-rx n = refl
+      read-comes k writes-lent n = refl
+      read-comes k writes-bytes n = refl
+      read-comes k closes n = refl
+
+      wrote-comes : {p : Pending} {sh : Show} → Awaits (s .buf .tail) (s .capacity - s .buf .tail) p sh → NarrowPending p
+          → Comes (misplaced sh wrote) (after s sh) here (wroteAt p here lent)
+      unfolding wroteAt
+      wrote-comes idle n = refl
+      wrote-comes reads n = refl
+      wrote-comes (writes-rx {q = q} {from = from} {k = k}) n = wrote-on-goes here from lent good (n .1 .0) short q k (n .0)
+      wrote-comes (writes-lent {q = q} {from = from} {k = k}) n = wrote-on-goes here from lent good (n .1 .0) short q k (n .0)
+      wrote-comes (writes-bytes {q = q} {from = from} {k = k}) n = wrote-on-goes here from lent good (n .1 .0) short q k (n .0)
+      wrote-comes (closes {failed = failed} {code = code}) n = closed-goes here good failed code A.Done n (tt, refl)
+
+      fault-comes : {p : Pending} {sh : Show} (f : P.End) → NarrowFault (faultOf f) → Awaits (s .buf .tail) (s .capacity - s .buf .tail) p sh → NarrowPending p
+          → Comes (misplaced sh (fault f)) (after s sh) here (faultAt p here (faultOf f))
+      unfolding faultAt
+      fault-comes f c idle n = refl
+      fault-comes f c (reads {lost = lost}) n = read-fault-goes here good (faultOf f) c lost
+      fault-comes f c (writes-rx {q = q}) n = write-fault-goes here good (faultOf f) c q
+      fault-comes f c (writes-lent {q = q}) n = write-fault-goes here good (faultOf f) c q
+      fault-comes f c (writes-bytes {q = q}) n = write-fault-goes here good (faultOf f) c q
+      fault-comes f c (closes {failed = failed} {code = code}) n = close-fault-goes here good (faultOf f) c failed code n
+
+    pub reports : (sh : Show) → Asked s sh → (r : Report) → WideAct (report r) → Comes (later (misplaced sh r)) (after s sh) here (reported r)
+    unfolding reportRead reportWrote reportFault
+    reports sh a (hasRead k) w =
+        report-comes here _ (after s sh) _ (length lent) (none-awaited a (hasRead k)) (λ e. read-comes (inv e) k a (narrow .pending))
+    reports sh a wrote w = report-comes here _ (after s sh) _ (length lent) (none-awaited a wrote) (λ e. wrote-comes (inv e) a (narrow .pending))
+    reports sh a (fault f) w =
+        report-comes here _ (after s sh) _ (length lent) (none-awaited a (fault f)) (λ e. fault-comes (inv e) f (coded-narrow f w) a (narrow .pending))

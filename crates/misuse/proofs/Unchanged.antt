@@ -92,18 +92,18 @@ module _ (rec : List ℕ) (bytes : Bytes rec) (e : Event) (w : Wide e) where
   few : U64 (length (e .lent))
   few = omega (arith, w .lent)
 
-  report-kept : (r : Report) → WideAct (report r) → (s : Session) (n : Narrow s) → Kept (back rec (e .out) (reported s n (e .lent) (e .rx) (e .msg) few (w .msg) (w .rx) r))
+  report-kept : (r : Report) → WideAct (report r) → (s : Session) (n : Narrow s) → Kept (back rec (e .out) (reported s (e .lent) (e .rx) (e .msg) r))
   report-kept r x s n =
       let sh : Show = standing (s .buf .tail) (s .capacity - s .buf .tail) (s .pending) in
-      back-kept s _ _ _ (later-narrow s n (e .lent) (e .rx) (e .msg) few (w .msg) (w .rx) sh r)
-      (reports s n (e .lent) (e .rx) (e .msg) few (w .msg) (w .rx) sh (stands _ _ (s .pending)) r x)
+      back-kept s _ _ _ (later-narrow s (e .lent) (e .rx) (e .msg) sh r)
+      (reports s (e .lent) (e .rx) (e .msg) n few (w .msg) (w .rx) sh (stands _ _ (s .pending)) r x)
 
   pub event-kept : (x : Act) → WideAct x → Kept (acted rec e x)
   unfolding crossStart crossRead crossWrote crossFault
   event-kept (start n a b) (p, q) =
       crossing-kept _
-      (λ s m. back-kept s _ _ _ (behind-narrow s m (e .lent) (e .rx) (e .msg) few (w .msg) (w .rx) _ (numbered-narrow _ (callOf n a b (e .lent))))
-      (calls s m (e .lent) (e .rx) (e .msg) few (w .msg) (w .rx) (told P.done) a b p q n))
+      (λ s m. back-kept s _ _ _ (behind-narrow s (e .lent) (e .rx) (e .msg) _ (numbered-narrow _ (callOf n a b (e .lent))))
+      (calls s (e .lent) (e .rx) (e .msg) m few (w .msg) (w .rx) (told P.done) a b p q n))
   event-kept (report (hasRead k)) x =
       crossing-kept _
       (λ s m. pick-cases Kept (stays (st s (e .rx) (e .msg)) (length (e .lent)) k) (λ _. λ (n, a, b, i). absurd (omega arith)) (λ _. report-kept (hasRead k) x s m))
