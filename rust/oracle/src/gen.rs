@@ -24,7 +24,11 @@ pub fn list(seed: u64, kind: Kind) -> List {
     // with reads of few bytes, only few bytes
     let most = if matches!(cuts, Cuts::Of(1..=16) | Cuts::UpTo(1..=16, _)) { capacity.min(600) } else { capacity };
     let banner = banner::random(rng);
-    let count = if kind == Kind::Short { rng.within(1, 6) } else { rng.within(1, 24) };
+    let count = match kind {
+        Kind::Short => rng.within(1, 6),
+        Kind::Any if rng.once_in(60) => rng.within(100, 300),
+        Kind::Any => rng.within(1, 24),
+    };
     let quits = rng.chance(30);
     let mut calls: Vec<Call> = (0..count).map(|_| call(rng, capacity, kind)).collect();
     if quits {
@@ -71,8 +75,8 @@ fn fault(rng: &mut Rng) -> Fault {
 
 fn capacity(rng: &mut Rng, kind: Kind) -> usize {
     match rng.below(100) {
-        0 => rng.below(8),
-        1..=55 => rng.within(8, 40),
+        0 if kind == Kind::Any => rng.below(8),
+        0..=55 => rng.within(8, 40),
         56..=69 => rng.within(70, 120),
         70..=79 => rng.within(41, 400),
         _ if kind == Kind::Short => rng.within(8, 100),
@@ -90,12 +94,15 @@ fn cuts(rng: &mut Rng, capacity: usize) -> Cuts {
     rng.pick(&choices)
 }
 
+// 000's methods; the last four are made of the others
+const CALLS: [What; 24] = [
+    Stat, Stat, StatV2, StatV2, List, List, ListV2, ListV2, RecvStart, RecvV2Start, RecvNext, RecvNext, RecvNext, RecvNext, SendStart,
+    SendV2Start, SendData, SendData, SendDone, SendDone, Recv, RecvV2, Send, SendV2,
+];
+
 fn call(rng: &mut Rng, capacity: usize, kind: Kind) -> Call {
-    let all = [
-        Stat, Stat, StatV2, StatV2, List, List, ListV2, ListV2, RecvStart, RecvV2Start, RecvNext, RecvNext, RecvNext, RecvNext, SendStart,
-        SendV2Start, SendData, SendData, SendDone, SendDone, Recv, RecvV2, Send, SendV2,
-    ];
-    let mut what = rng.pick(&all);
+    let all = if kind == Kind::Short { &CALLS[..20] } else { &CALLS };
+    let mut what = rng.pick(all);
     // a record that never fits stays in front of all that follows: only now and then
     let least = |what| match what {
         Stat => 16,
@@ -105,7 +112,7 @@ fn call(rng: &mut Rng, capacity: usize, kind: Kind) -> Call {
         _ => 8,
     };
     while capacity < least(what) && !rng.once_in(30) {
-        what = rng.pick(&all);
+        what = rng.pick(all);
     }
     let mut call = Call::new(what);
     if call.takes_path() {

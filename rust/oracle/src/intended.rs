@@ -78,8 +78,9 @@ fn message(call: &Call) -> Vec<u8> {
     [&id[..], &(counted as u32).to_le_bytes(), path, &rest].concat()
 }
 
-/// Runs such a call on a session of 000 of its own, whose panel answers nothing, and holds it to the above. Gives the bytes written.
-pub fn aside(call: &Call, banner: &[u8], capacity: usize) -> Result<Vec<u8>, String> {
+/// Runs such a call on a session of 000 of its own, whose panel answers nothing, and holds it to the above. Gives its answer and the bytes
+/// that it wrote.
+pub fn aside(call: &Call, banner: &[u8], capacity: usize) -> Result<(Answer, Vec<u8>), String> {
     let start = match call.what {
         What::Recv => What::RecvStart,
         What::RecvV2 => What::RecvV2Start,
@@ -106,7 +107,7 @@ pub fn aside(call: &Call, banner: &[u8], capacity: usize) -> Result<Vec<u8>, Str
         Ok(message) => (Answer::Done, message),
     };
     if (&answer, &written) == (&expected.0, &expected.1) {
-        Ok(written)
+        Ok((answer, written))
     } else {
         Err(format!("000, alone, was expected to answer {:?}\n  and answers {answer:?}", expected.0))
     }

@@ -9,6 +9,7 @@ beside_000! {
     mod bench;
     mod beside;
     mod call;
+    mod differences;
     mod gen;
     mod held;
     mod hex;
@@ -18,12 +19,14 @@ beside_000! {
     mod ours;
     mod peek;
     mod plan;
+    mod record;
     mod rng;
     mod scripted;
     #[allow(dead_code)]
     mod standin;
     mod steps;
     mod theirs;
+    mod trials;
     mod wire;
 
     // 000's own files, and the names that they expect at the root of their crate
@@ -40,7 +43,11 @@ beside_000! {
 const USAGE: &str = "\
 oracle lists N SEED            compare N random lists of calls
 oracle list SEED               one of them, by its own seed, printed
-oracle bench NAME SIDE [P]     one run by ours, theirs or floor, of P percent of its size";
+oracle trials                  document 01's trial pieces, on both sides
+oracle differences             the intended differences, with their bytes
+oracle record N SEED           the trial pieces and N short lists, as text to be replayed
+oracle bench                   times of both sides and of the channel alone
+oracle bench NAME SIDE [P]     one run by theirs, ours or floor (the channel alone), of P percent of its size";
 
 #[cfg(original)]
 fn main() {
@@ -49,6 +56,10 @@ fn main() {
     let well = match args[..] {
         ["lists", count, seed] => lists::run(number(count), number(seed)),
         ["list", seed] => lists::one(number(seed)),
+        ["trials"] => trials::run(),
+        ["differences"] => differences::print(),
+        ["record", count, seed] => record::print(number(count), number(seed)),
+        ["bench"] => bench::table(12),
         ["bench", name, side] => bench::once(name, side, 100),
         ["bench", name, side, percent] => bench::once(name, side, number(percent) as usize),
         _ => {

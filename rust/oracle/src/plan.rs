@@ -12,8 +12,6 @@ pub enum Cuts {
     Of(usize),
     /// any number up to this one, by the seed and the number of the read
     UpTo(usize, u64),
-    /// these, one after the other, then the whole window
-    These(Vec<usize>),
 }
 
 impl Cuts {
@@ -21,7 +19,6 @@ impl Cuts {
         match self {
             Cuts::Of(n) => *n,
             Cuts::UpTo(n, seed) => 1 + (mixed(*seed, read as u64) % *n as u64) as usize,
-            Cuts::These(counts) => counts.get(read).copied().unwrap_or(usize::MAX),
         }
     }
 }

@@ -1,0 +1,107 @@
+#!/usr/bin/env bash
+# Measures the library beside 000 and writes docs/BENCHMARKS.md.
+#
+#   YUGLASNO_000=DIR [YUGLASNO_LIB=DIR] bash rust/bench.sh
+#
+# Needs 000's source, valgrind, size and nm. Instructions are counted by callgrind and repeat exactly; times do not.
+set -euo pipefail
+cd "$(dirname "$0")"
+lib=${YUGLASNO_LIB:-../target/staticlib}/libexports.a
+cargo build --offline --release -q -p oracle
+oracle=target/release/oracle
+if $oracle 2>/dev/null | grep -q 'left out'; then
+  $oracle
+  exit 0
+fi
+
+# count NAME SIDE PERCENT: items, reads and instructions of one run
+count() {
+  valgrind --tool=callgrind --callgrind-out-file=/dev/null --toggle-collect="*measured_$2*" $oracle bench "$1" "$2" "$3" 2>&1 |
+    awk '/ items, / {items = $3; reads = $5} /Collected/ {print items, reads, $4}'
+}
+
+# row NAME UNIT SMALL LARGE: the row of a case, from two sizes in percent, the second ten times the first
+row() {
+  local cells="" side a b
+  for side in theirs ours floor; do
+    read -r -a a <<<"$(count "$1" $side "$3")"
+    read -r -a b <<<"$(count "$1" $side "$4")"
+    cells+=" ${a[*]} ${b[*]}"
+  done
+  awk -v name="$1" -v unit="$2" -v cells="$cells" 'BEGIN {
+    split(cells, c, " ")
+    of = unit == "read" ? 2 : 1
+    for (side = 0; side < 3; side++) {
+      k = 6 * side
+      each[side] = (c[k + 6] - c[k + 3]) / (c[k + 3 + of] - c[k + of])
+      growth[side] = c[k + 6] / c[k + 3]
+    }
+    printf "| %s | %s | %.1f | %.1f | %.2f | %.1f | %.2f | %.2f |\n", name, unit, each[0], each[1], each[1] / each[0], each[2], growth[0], growth[1]
+  }'
+}
+
+instructions() {
+  echo "| work | unit | 000 | here | here / 000 | channel alone | ten times as much: 000 | here |"
+  echo "|---|---|---|---|---|---|---|---|"
+  local name
+  for name in pull_16384 pull_512 pull_64 pull_1 pull_v2_16384 pull_v2_512 pull_v2_64 pull_v2_1; do row $name read 2 16; done
+  for name in push_65544 push_4096 push_v2_65544 push_v2_4096; do row $name message 2 16; done
+  for name in list_65544 list_4096 list_v2_65544 list_v2_4096; do row $name entry 1 10; done
+  for name in stat_65544 stat_4096 stat_v2_65544 stat_v2_4096; do row $name stat 1 10; done
+}
+
+library() {
+  echo "| part | bytes |"
+  echo "|---|---|"
+  size -A "$lib" | awk '
+    $1 ~ /^\.text/ {text += $2} $1 ~ /^\.rodata/ {read_only += $2} $1 ~ /^\.data/ && $1 !~ /rel\.ro/ {data += $2} $1 ~ /^\.bss/ {bss += $2}
+    END {printf "| code | %d |\n| read-only data | %d |\n| data that can change | %d |\n", text, read_only, data + bss}'
+  echo
+  echo "What it calls outside itself: $(nm -u "$lib" | awk '$1 == "U" {print "`" $2 "`"}' | sort -u | paste -sd' ')."
+  if nm "$lib" | grep -iqE 'alloc|malloc|calloc|free$|brk|mmap'; then
+    echo "It NAMES AN ALLOCATOR."
+  else
+    echo "No symbol of an allocator."
+  fi
+}
+
+page=../docs/BENCHMARKS.md
+{
+  cat <<'TEXT'
+# Benchmarks
+
+The library beside 000 (docs/DIFFERENCES.md), on the same scripted bytes, written by `rust/bench.sh`. Both are called from one program,
+release build; 000 is compiled with it in one unit, so that its small functions are inlined, and its listing gathers entries in a `Vec`,
+where here each is handed out. The channel is the same code for both; "channel alone" asks it the same reads and writes in a bare loop.
+
+* pull_N: a job of 4 MiB in messages of 65,536 bytes, in reads of at most N bytes, capacity 65,544.
+* push_C: 4 MiB in one call, capacity C: at 65,544 each message is composed, at 4,096 it goes out in pieces.
+* list_C: a listing of 40,000 entries, names of 12 bytes, reads of at most 16 KiB, capacity C.
+* stat_C: 40,000 stats, each reply coming only once its request was written, capacity C.
+
+## Instructions
+
+Counted by callgrind for one unit: the difference between two sizes, divided by their difference in units. The last two columns are the
+whole run at ten times the size, over the run: 10 where the cost grows with the work alone, less where a start and an end weigh in.
+
+TEXT
+  instructions
+  cat <<'TEXT'
+
+A long copy by the processor's string move counts an instruction for each byte, one in wider moves far fewer: compare the large reads and
+the composed push by their times.
+
+## Time
+
+The shortest of twelve runs of each side, in turn. The ratio of two runs on a machine that does other work moves by a tenth or two.
+
+TEXT
+  $oracle bench
+  cat <<'TEXT'
+
+## The library
+
+TEXT
+  library
+} >"$page.new"
+mv "$page.new" "$page"
