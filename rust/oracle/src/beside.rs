@@ -4,13 +4,13 @@ use crate::held;
 use crate::hex::hex;
 use crate::intended;
 use crate::misuse::{self, Waits};
-use crate::original::sync::parse_stat_v2_body;
+use crate::original::sync::{parse_stat_v2_body, SyncSession};
 use crate::ours;
 use crate::peek::Watched;
 use crate::plan::List;
 use crate::rng::Rng;
 use crate::scripted::{shared, Op, Shared};
-use crate::steps;
+use crate::steps::{self, Made};
 use crate::theirs;
 
 /// What was compared.
@@ -52,65 +52,113 @@ pub fn compare(list: &List, tally: &mut Tally) -> Result<(), String> {
     let watched = Watched::new(list.rx.clone());
     their_wire.borrow_mut().receives_at(watched.address());
     let mut their_host = theirs::Host::new(&list.banner, their_wire.clone());
-    let mut session = Some(their_host.session(watched.lend()));
-    let mut host = ours::Host::open(&list.banner, list.rx.clone(), our_wire.clone()).map_err(|n| format!("opening was answered {n}"))?;
+    let session = Some(their_host.session(watched.lend()));
+    let host = ours::Host::open(&list.banner, list.rx.clone(), our_wire.clone()).map_err(|n| format!("opening was answered {n}"))?;
     our_wire.borrow_mut().receives_at(host.rx.as_ptr() as usize);
-
-    let mut rng = Rng::new(list.seed ^ 0x6d69_7375_7365);
-    let mut consumed = 0;
+    let rng = Rng::new(list.seed ^ 0x6d69_7375_7365);
+    let mut pair = Pair { list, session, watched: &watched, their_wire, host, our_wire, consumed: 0, rng };
     for (i, call) in list.calls.iter().enumerate() {
-        let at = |text: String| format!("call {i} ({call}):\n  {text}");
+        pair.call(call, tally).map_err(|text| format!("call {i} ({call}):\n  {text}"))?;
+    }
+    Ok(())
+}
+
+/// Both sessions, and what both have consumed so far.
+struct Pair<'l, 's> {
+    list: &'l List,
+    session: Option<SyncSession<'s, 's, theirs::Host<Shared<'l>>>>,
+    watched: &'s Watched,
+    their_wire: Shared<'l>,
+    host: ours::Host<Shared<'l>>,
+    our_wire: Shared<'l>,
+    consumed: usize,
+    rng: Rng,
+}
+
+impl Pair<'_, '_> {
+    fn call(&mut self, call: &Call, tally: &mut Tally) -> Result<(), String> {
         tally.calls += 1;
-        let ended = session.is_none();
-        if list.misuses && rng.chance(30) {
+        let ended = self.session.is_none();
+        if self.list.misuses && self.rng.chance(30) {
             let waits = if ended { Waits::Ended } else { Waits::Nothing };
-            misused(misuse::try_one(&host, waits, b"", &mut rng).map_err(at)?, tally);
+            misused(misuse::try_one(&self.host, waits, b"", &mut self.rng)?, tally);
         }
-        their_wire.borrow_mut().lent(call);
-        our_wire.borrow_mut().lent(call);
+        self.their_wire.borrow_mut().lent(call);
+        self.our_wire.borrow_mut().lent(call);
         if ended || intended::refused_here(call).is_some() {
-            refused_here(list, call, ended, &mut host, &our_wire, tally).map_err(at)?;
-            continue;
+            return self.refused_here(call, tally);
         }
-        let before = (host.rec.clone(), host.msg.clone());
-        let theirs = theirs::make(&mut session, call);
+        let before = (self.host.rec.clone(), self.host.msg.clone());
+        let theirs = theirs::make(&mut self.session, call);
+        let made = self.made_here(call, tally)?;
+        same_ops(&self.their_wire, &self.our_wire, tally)?;
+        unless(theirs == made.answer, || format!("000 answers {theirs:?}\n  this answers {:?}", made.answer))?;
+        same_bytes("the receive buffer", &self.watched.bytes(), &self.host.rx)?;
+        if made.answer.refused() {
+            tally.refused += 1;
+            unless(before.0 == self.host.rec, || "a refused call altered the record".into())?;
+        }
+        tally.answers[if let Answer::Not(why) = &made.answer { why.number() as usize } else { 0 }] += 1;
+        self.consumed_alike(call, &made, &before.1, tally)
+    }
+
+    // the call by our steps, with misuse before its reports
+    fn made_here(&mut self, call: &Call, tally: &mut Tally) -> Result<Made, String> {
+        let Pair { list, host, rng, .. } = self;
         let mut wrong = None;
-        let made = steps::make(&mut host, call, &mut |host, step, lent, a, b| {
+        let made = steps::make(host, call, &mut |host, step, lent, a, b| {
             host.step_with(step, lent, a, b, |host, reply| {
                 if list.misuses && rng.chance(20) {
                     let waits = if reply == 1 { Waits::Read { window: host.at(1) as usize } } else { Waits::Write };
-                    match misuse::try_one(host, waits, lent, &mut rng) {
+                    match misuse::try_one(host, waits, lent, rng) {
                         Ok(number) => misused(number, tally),
                         Err(text) => wrong = Some(text),
                     }
                 }
             })
         });
-        unless(wrong.is_none(), || at(wrong.unwrap()))?;
-        same_ops(&their_wire, &our_wire, tally).map_err(at)?;
-        unless(theirs == made.answer, || at(format!("000 answers {theirs:?}\n  this answers {:?}", made.answer)))?;
-        same_bytes("the receive buffer", &watched.bytes(), &host.rx).map_err(at)?;
-        if made.answer.refused() {
-            tally.refused += 1;
-            unless(before.0 == host.rec, || at("a refused call altered the record".into()))?;
-        }
-        tally.answers[if let Answer::Not(why) = &made.answer { why.number() as usize } else { 0 }] += 1;
+        wrong.map_or(Ok(made), Err)
+    }
 
-        let from = consumed;
-        if let Some(session) = &session {
-            let held = (held::by_theirs(session, &watched, &their_wire), held::by_ours(&host, &our_wire));
-            unless(held.0 == held.1, || at(format!("000 holds {} bytes, this {}", held.0, held.1)))?;
-            consumed = our_wire.borrow().at - held.0;
+    // both hold the same count, so both consumed the same; what was handed out of it, and the text kept of a FAIL
+    fn consumed_alike(&mut self, call: &Call, made: &Made, msg: &[u8], tally: &mut Tally) -> Result<(), String> {
+        let from = self.consumed;
+        if let Some(session) = &self.session {
+            let theirs = held::by_theirs(session, self.watched, &self.their_wire);
+            let ours = held::by_ours(&self.host, &self.our_wire);
+            unless(theirs == ours, || format!("000 holds {theirs} bytes, this {ours}"))?;
+            self.consumed = self.our_wire.borrow().at - theirs;
         }
-        let (entries, next) = entries_in(call, &list.incoming[from..consumed]);
+        let consumed = &self.list.incoming[..self.consumed];
+        let (entries, next) = entries_in(call, &consumed[from..]);
         if !made.entries.is_empty() {
             tally.document("entries handed out before an error");
-            unless(made.entries == entries, || at(format!("this hands out {:?}\n  but {entries:?} came", made.entries)))?;
+            unless(made.entries == entries, || format!("this hands out {:?}\n  but {entries:?} came", made.entries))?;
         }
-        let text = fail_text(&list.incoming[..consumed], from + next, list.rx.len());
-        same_bytes("the message buffer", &[text, &before.1[text.len()..]].concat(), &host.msg).map_err(at)?;
+        let text = fail_text(consumed, from + next, self.list.rx.len());
+        same_bytes("the message buffer", &[text, &msg[text.len()..]].concat(), &self.host.msg)
     }
-    Ok(())
+
+    // a call that only this library refuses: after quit, or 7 or 9; the memory stays as it was, and 000 does what is said of it
+    fn refused_here(&mut self, call: &Call, tally: &mut Tally) -> Result<(), String> {
+        let before = self.host.clone();
+        let host = &mut self.host;
+        let made = steps::make(host, call, &mut |host, step, lent, a, b| host.step(step, lent, a, b));
+        let ended = self.session.is_none();
+        let number = if ended { 6 } else { intended::refused_here(call).unwrap() };
+        let told = if let Answer::Not(why) = &made.answer { why.number() } else { 0 };
+        unless(told == number, || format!("{number} expected, this answers {:?}", made.answer))?;
+        unless((&before.rec, &before.rx, &before.msg) == (&host.rec, &host.rx, &host.msg), || "a refused call altered memory".into())?;
+        unless(self.our_wire.borrow_mut().take_ops().is_empty(), || "a refused call asked the channel".into())?;
+        tally.answers[told as usize] += 1;
+        if ended {
+            tally.document("a call after quit: 6");
+            return Ok(());
+        }
+        intended::aside(call, &self.list.banner, self.list.rx.len())?;
+        tally.document(if number == 7 { "a path over 65,536: 7" } else { "a flag bit outside 80000007: 9" });
+        Ok(())
+    }
 }
 
 fn misused(number: u32, tally: &mut Tally) {
@@ -136,32 +184,16 @@ fn same_bytes(which: &str, theirs: &[u8], ours: &[u8]) -> Result<(), String> {
     unless(theirs == ours, || format!("{which}: expected {}\n  is {}", hex(theirs), hex(ours)))
 }
 
-// a call that only this library refuses: after quit, or 7 or 9; the memory stays as it was, and 000 does what is said of it
-fn refused_here(list: &List, call: &Call, ended: bool, host: &mut ours::Host<Shared>, wire: &Shared, tally: &mut Tally) -> Result<(), String> {
-    let before = host.clone();
-    let made = steps::make(host, call, &mut |host, step, lent, a, b| host.step(step, lent, a, b));
-    let number = if ended { 6 } else { intended::refused_here(call).unwrap() };
-    let told = if let Answer::Not(why) = &made.answer { why.number() } else { 0 };
-    unless(told == number, || format!("{number} expected, this answers {:?}", made.answer))?;
-    unless((&before.rec, &before.rx, &before.msg) == (&host.rec, &host.rx, &host.msg), || "a refused call altered memory".into())?;
-    unless(wire.borrow_mut().take_ops().is_empty(), || "a refused call asked the channel".into())?;
-    tally.answers[told as usize] += 1;
-    if ended {
-        tally.document("a call after quit: 6");
-        return Ok(());
-    }
-    intended::aside(call, &list.banner, list.rx.len())?;
-    tally.document(if number == 7 { "a path over 65,536: 7" } else { "a flag bit outside 80000007: 9" });
-    Ok(())
-}
-
 // under 8 bytes 000 panics
 fn too_small(list: &List, tally: &mut Tally) -> Result<(), String> {
     let opened = ours::Host::open(&list.banner, list.rx.clone(), shared(list)).err();
     unless(opened == Some(1), || format!("opening on {} bytes was answered {opened:?}", list.rx.len()))?;
     let rx = Watched::new(list.rx.clone());
     let mut host = theirs::Host::new(&list.banner, shared(list));
-    let panicked = std::panic::catch_unwind(std::panic::AssertUnwindSafe(|| drop(host.session(rx.lend())))).is_err();
+    let opening = std::panic::AssertUnwindSafe(|| {
+        host.session(rx.lend());
+    });
+    let panicked = std::panic::catch_unwind(opening).is_err();
     unless(panicked, || format!("000 opened on {} bytes", list.rx.len()))?;
     tally.document("a receive buffer under 8: 1");
     Ok(())

@@ -39,6 +39,8 @@ beside_000! {
     use standin::{error, transport};
 }
 
+mod replay;
+
 #[cfg(original)]
 const USAGE: &str = "\
 oracle lists N SEED            compare N random lists of calls
@@ -46,6 +48,7 @@ oracle list SEED               one of them, by its own seed, printed
 oracle trials                  document 01's trial pieces, on both sides
 oracle differences             the intended differences, with their bytes
 oracle record N SEED           the trial pieces and N short lists, as text to be replayed
+oracle replay FILE             such a text, replayed on this library
 oracle bench                   times of both sides and of the channel alone
 oracle bench NAME SIDE [P]     one run by theirs, ours or floor (the channel alone), of P percent of its size";
 
@@ -59,6 +62,7 @@ fn main() {
         ["trials"] => trials::run(),
         ["differences"] => differences::print(),
         ["record", count, seed] => record::print(number(count), number(seed)),
+        ["replay", path] => replay::run(path),
         ["bench"] => bench::table(12),
         ["bench", name, side] => bench::once(name, side, 100),
         ["bench", name, side, percent] => bench::once(name, side, number(percent) as usize),
@@ -78,5 +82,9 @@ fn number(text: &str) -> u64 {
 
 #[cfg(not(original))]
 fn main() {
+    let args: Vec<String> = std::env::args().skip(1).collect();
     println!("000's source was not there when this was built (YUGLASNO_000): the comparison with it was left out");
+    if let ["replay", path] = args.iter().map(|a| a.as_str()).collect::<Vec<_>>()[..] {
+        std::process::exit(!replay::run(path) as i32)
+    }
 }

@@ -17,6 +17,8 @@
 //!   chunk or text as bytes.
 //! * 07, the list ends: n4 how many bytes are held (0 after quit), the receive buffer as bytes.
 //!
+//! The host alters no other byte of the window than those that come.
+//!
 //! What is recorded is what 000 answers, asks and leaves: every list was compared first. A listing, one call of 000, is its start and its
 //! steps; lists where 000 keeps entries back, and calls that 000 has not or refuses otherwise, are left out (see DIFFERENCES.md).
 use crate::beside::{compare, Tally};
@@ -162,6 +164,7 @@ pub fn print(count: u64, seed: u64) -> bool {
     let short = (0..).map(|i| gen::list(mixed(seed, i), Kind::Short));
     let filled = trials().into_iter().chain(short).map(|mut list| {
         list.rx.fill(FILL);
+        list.scribbles = false;
         list
     });
     filled.filter_map(|list| recorded(&list)).take(trials().len() + count as usize).for_each(|text| print!("{text}"));

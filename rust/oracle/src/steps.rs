@@ -82,9 +82,9 @@ fn pulled<W: Wire>(host: &mut Host<W>, step: Stepper<W>) -> Result<Answer, Why> 
     Ok(Answer::Pulled(data))
 }
 
-// the numbers of a stat or an entry: kinds 2 and 4 are v1's, 3 and 5 v2's
+// the numbers of a stat or an entry, by its kind
 fn numbers<W: Wire>(host: &Host<W>) -> Vec<u64> {
-    let count = if host.at(0) % 2 == 0 { 3 } else { 11 };
+    let count = if matches!(host.at(0), 2 | 4) { 3 } else { 11 };
     (3..3 + count).map(|i| host.at(i)).collect()
 }
 
