@@ -36,7 +36,8 @@ row() {
       each[side] = (c[k + 6] - c[k + 3]) / (c[k + 3 + of] - c[k + of])
       growth[side] = c[k + 6] / c[k + 3]
     }
-    printf "| %s | %s | %.1f | %.1f | %.2f | %.1f | %.2f | %.2f |\n", name, unit, each[0], each[1], each[1] / each[0], each[2], growth[0], growth[1]
+    printf "| %s | %s | %.1f | %.1f | %.2f ", name, unit, each[0], each[1], each[1] / each[0]
+    printf "| %.1f | %.2f | %.2f |\n", each[2], growth[0], growth[1]
   }'
 }
 

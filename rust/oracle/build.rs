@@ -22,7 +22,9 @@ fn main() {
         for file in FILES {
             println!("cargo:rerun-if-changed={}", folder.join(file).display());
         }
-        fs::write(generated, format!("#[allow(dead_code, unused_imports, unexpected_cfgs)]\n#[path = {:?}]\nmod original {{ {} }}\n", folder.display().to_string(), MODULES)).unwrap();
+        let allowed = "#[allow(dead_code, unused_imports, unexpected_cfgs)]";
+        let path = folder.display().to_string();
+        fs::write(generated, format!("{allowed}\n#[path = {path:?}]\nmod original {{ {MODULES} }}\n")).unwrap();
         println!("cargo:rustc-cfg=original");
     } else {
         println!("cargo:warning=000's source is not at {}: built without the comparison", folder.display());

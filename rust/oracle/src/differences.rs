@@ -84,28 +84,31 @@ fn unknown_flag_without_feature() -> bool {
     refused("RCV2 \"/a\", flags 8, no features", Call { flags: 8, ..Call::on(What::RecvV2Start, "/a") }, "", 9)
 }
 
-// what comes before an error is handed out here, and kept by 000
-fn before_error(call: What, incoming: &[u8], steps: &[Step]) -> bool {
+// what comes before an error is handed out here, and kept by 000: the steps, with the number and the bytes told of each
+fn before_error(call: What, incoming: &[u8], steps: &[(Step, u32, &[u8])]) -> bool {
     let list = list("", 64, incoming, vec![Call::on(call, "/a")]);
     let same = compare(&list, &mut Tally::default());
     let mut host = ours::Host::open(b"", list.rx.clone(), crate::scripted::shared(&list)).unwrap();
-    let mut told = vec![];
-    for step in steps {
+    let (mut told, mut as_stated) = (vec![], same.is_ok());
+    for (step, number, bytes) in steps {
         let lent: &[u8] = if told.is_empty() { b"/a" } else { b"" };
-        let number = host.step(*step, lent, 0, 0);
-        let part = if number == 14 { host.msg[host.part(1)].to_vec() } else { host.rx[host.part(1)].to_vec() };
-        told.push(format!("{number} {}", hex(&part)));
+        let answered = host.step(*step, lent, 0, 0);
+        let part = if answered == 14 { &host.msg[host.part(1)] } else { &host.rx[host.part(1)] };
+        as_stated &= (answered, part) == (*number, *bytes);
+        told.push(format!("{answered} {}", hex(part)));
     }
-    let theirs = if same.is_ok() { "14 with the text alone".to_string() } else { format!("{same:?}") };
-    say(&format!("{call:?} \"/a\", incoming {}", spaced(incoming)), told.join(", then "), theirs, same.is_ok())
+    let theirs = same.map_or_else(|text| text, |()| "14 with the text alone".to_string());
+    say(&format!("{call:?} \"/a\", incoming {}", spaced(incoming)), told.join(", then "), theirs, as_stated)
 }
 
 fn entries_then_fail() -> bool {
-    before_error(What::List, b"DENT\xa4\x81\0\0\xce\x07\0\0\x05\0\0\0\x03\0\0\0T98FAIL\x02\0\0\0no", &[Step::List, Step::Entry, Step::Entry])
+    let incoming = b"DENT\xa4\x81\0\0\xce\x07\0\0\x05\0\0\0\x03\0\0\0T98FAIL\x02\0\0\0no";
+    before_error(What::List, incoming, &[(Step::List, 0, b""), (Step::Entry, 0, b"T98"), (Step::Entry, 14, b"no")])
 }
 
 fn chunk_then_fail() -> bool {
-    before_error(What::Recv, b"DATA\x01\0\0\0xFAIL\x02\0\0\0no", &[Step::Recv, Step::RecvNext, Step::RecvNext])
+    let incoming = b"DATA\x01\0\0\0xFAIL\x02\0\0\0no";
+    before_error(What::Recv, incoming, &[(Step::Recv, 0, b""), (Step::RecvNext, 0, b"x"), (Step::RecvNext, 14, b"no")])
 }
 
 fn after_quit() -> bool {
@@ -181,6 +184,7 @@ fn while_pending() -> bool {
         told.push(raw::wrote(&mut host.rec, &mut host.rx, &mut host.msg, b"", out) >> 8);
         told.push(raw::read(&mut host.rec, &mut host.rx[1..], &mut host.msg, b"", 1, out) >> 8);
     });
+    let what = "while a read is awaited: a call, an accepted write, a buffer of another length";
     let theirs = "a call borrows the session to its end: there is no such call or report";
-    say("while a read is awaited: a call, an accepted write, a buffer of another length", format!("{told:?}"), theirs.into(), told[..3] == [4, 5, 3])
+    say(what, format!("{told:?}"), theirs.into(), told[..3] == [4, 5, 3])
 }

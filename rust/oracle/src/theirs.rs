@@ -4,7 +4,7 @@ use crate::error::Error;
 use crate::original::base::channel::{Channel, ChannelId, SelectResult};
 use crate::original::base::protocol::features::{has_feature, Feature};
 use crate::original::base::session::Session;
-use crate::original::sync::{FileMode, StatV2, SyncError, SyncSession};
+use crate::original::sync::{DirEntry, FileMode, StatV2, SyncError, SyncSession};
 use crate::peek;
 use crate::wire::{Fault, Wire};
 use std::future::Future;
@@ -112,8 +112,8 @@ pub fn make<W: Wire>(session: &mut Option<SyncSession<'_, '_, Host<W>>>, call: &
         What::Stat => run(s.stat(path)).map(|s| Answer::Stat([s.mode.0, s.size, s.mtime].map(u64::from).to_vec())),
         What::StatV2 => run(s.stat_v2(path)).map(|s| Answer::Stat(numbers(&s))),
         What::List => run(s.list(path)).map(|all| {
-            let entry = |e: crate::original::sync::DirEntry| Entry { numbers: [e.mode.0, e.size, e.mtime].map(u64::from).to_vec(), name: e.name };
-            Answer::Listed(all.into_iter().map(entry).collect())
+            let numbers = |e: &DirEntry| [e.mode.0, e.size, e.mtime].map(u64::from).to_vec();
+            Answer::Listed(all.into_iter().map(|e| Entry { numbers: numbers(&e), name: e.name }).collect())
         }),
         What::ListV2 => run(s.list_v2(path)).map(|all| {
             Answer::Listed(all.into_iter().map(|e| Entry { numbers: numbers(&e.stat), name: e.name }).collect())

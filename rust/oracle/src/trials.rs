@@ -81,7 +81,9 @@ fn requests(t: &mut Trials) {
 fn replies(t: &mut Trials) {
     let next = || Call::new(What::RecvNext);
     let stat = b"STAT\x01\0\0\0\x02\0\0\0\x03\0\0\0";
-    t.show("STAT reply at capacity 16", &list("", 16, stat, vec![Call::on(What::Stat, "/a")]), |s| s[0].answer == Answer::Stat(vec![1, 2, 3]));
+    t.show("STAT reply at capacity 16", &list("", 16, stat, vec![Call::on(What::Stat, "/a")]), |s| {
+        s[0].answer == Answer::Stat(vec![1, 2, 3])
+    });
     t.show("STAT reply at capacity 15", &list("", 15, stat, vec![Call::on(What::Stat, "/a"), next()]), |s| {
         s[0].answer == Answer::Not(Why::TooLarge) && s[1].answer == Answer::Not(Why::Unexpected(*b"STAT"))
     });
@@ -94,6 +96,7 @@ fn replies(t: &mut Trials) {
     t.show("FAIL of 20 at capacity 8", &list("", 8, &fail, vec![next(), next()]), |s| {
         s[0].answer == Answer::Not(Why::Fail(b"twenty b".to_vec())) && s[1].answer == Answer::End
     });
+    // document 01 names the feature b; the session knows only its seven
     t.show("features=a;features=stat_v2", &list("features=a;features=stat_v2", 80, b"", vec![Call::on(What::StatV2, "/a")]), |s| {
         s[0].answer == Answer::Not(Why::Missing(1))
     });
@@ -101,7 +104,9 @@ fn replies(t: &mut Trials) {
 
 // flags 3, and the other words with more than one of the bits 1, 2 and 4
 fn several(t: &mut Trials) {
-    let banners = ["", "features=", "features=sendrecv_v2", "features=sendrecv_v2,sendrecv_v2_brotli", V2, "device::x;features=ls_v2;stat_v2", "feature"];
+    let banners = [
+        "", "features=", "features=sendrecv_v2", "features=sendrecv_v2,sendrecv_v2_brotli", V2, "device::x;features=ls_v2;stat_v2", "feature",
+    ];
     for banner in banners {
         for word in [3, 5, 6, 7, 0x8000_0003] {
             let calls = [What::RecvV2Start, What::SendV2Start].map(|what| flags(Call::on(what, "/a"), word)).to_vec();
@@ -136,6 +141,6 @@ pub fn run() -> bool {
     replies(&mut trials);
     several(&mut trials);
     data(&mut trials);
-    println!("{} trial pieces, {} wrong", trials.shown, trials.wrong);
+    println!("{} checks of trial pieces, {} wrong", trials.shown, trials.wrong);
     trials.wrong == 0
 }

@@ -6,8 +6,10 @@ const OTHERS: [&str; 12] = [
     "", "shell_v2", "cmd", "stat_v", "stat_v2 ", "xstat_v2", "sendrecv", "sendrecv_v2_", "ls_v22", "STAT_V2", "features", "features=ls_v2",
 ];
 
+const FRONTS: [&str; 7] = ["", "device::", "device::ro.product.name=x;", "feature=stat_v2;", "ffeatures", "features", "host::"];
+
 pub fn random(rng: &mut Rng) -> Vec<u8> {
-    let mut banner = rng.pick(&["", "device::", "device::ro.product.name=x;", "feature=stat_v2;", "ffeatures", "features", "host::"]).as_bytes().to_vec();
+    let mut banner = rng.pick(&FRONTS).as_bytes().to_vec();
     let marked = match rng.below(10) {
         0 => 0,
         1 => 2,
