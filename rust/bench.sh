@@ -94,7 +94,8 @@ the composed push by their times.
 
 ## Time
 
-The shortest of twelve runs of each side, in turn. The ratio of two runs on a machine that does other work moves by a tenth or two.
+The shortest of twelve runs of each side, in turn. On busy cores the ratio of one row has moved by a factor of two between two runs of this
+script, so these are worth something only from idle cores; the instructions repeat exactly.
 
 TEXT
   $oracle bench
