@@ -60,7 +60,7 @@ called s (nextEntry v2) = refl
 called s nextChunk = refl
 
 -- the fault that the numbers say
-faulted : (e : End) → faultNumbered (endKind e) (endCode e) ≡ faultOf e
+pub faulted : (e : End) → faultNumbered (endKind e) (endCode e) ≡ faultOf e
 faulted closed = refl
 faulted (error c) = refl
 

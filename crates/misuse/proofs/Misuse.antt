@@ -4,7 +4,7 @@ use Prim.Native.Nat.{ℕ, _≤_, _<_, _^_}
 use mathlib.Core.Bool.{Bool, true, false, not}
 use mathlib.Core.List.{List, [], _∷_}
 use mathlib.Core.Option.{Option, some}
-use mathlib.Core.Path.{_≡_, refl, sym, _∙_, subst}
+use mathlib.Core.Path.{_≡_, refl, sym, ap, _∙_, subst}
 use native.Mathlib.Omega.{arith}
 use borrow.Author.Tests.{le-ltb, ltb-false}
 use lib.Dec.{eqb, ltb}
@@ -25,13 +25,15 @@ use Rattle.session.specs.Core.{featuresFrom}
 use Rattle.session.specs.Host.{Show, told, Step, lentOf}
 use Rattle.session.specs.Shown.{paper}
 use Rattle.session.specs.State.{St, st, Out}
+use Rattle.session.specs.Reports.{reportFault}
+use Rattle.session.specs.declared.Fault.{Fault}
 use Rattle.session.proofs.Demand3.{features-listed}
 use Rattle.session.proofs.Turns.{Frame, frameOf}
 use Rattle.boundary.specs.Boundary.{callNumber, firstNumber, flagNumber, stepOf}
 use Rattle.boundary.specs.Crossing.{Crossed, turnedAway, back, OpenCrossed, crossOpen, crossStart, crossRead, crossWrote, crossFault}
 use Rattle.boundary.specs.Heard.{answerHeard, heard}
 use Rattle.boundary.specs.Told.{replyNumber, outSize}
-use Rattle.boundary.proofs.Carried.{image, loads, back-image, read-back}
+use Rattle.boundary.proofs.Carried.{image, loads, back-image, read-back, faulted}
 use Rattle.boundary.proofs.Heard.{heard-told}
 use Rattle.boundary.proofs.Reports.{NarrowRefusal, lets, by-number, by-feature}
 use Rattle.boundary.proofs.Steps.{Asked, idle, fine}
@@ -122,7 +124,7 @@ module _ (s : Session) (sh : Show) (own : Own s) (asked : Asked s sh) (lent rx m
     unfolding crossRead crossWrote crossFault
     report-crosses (hasRead k) = loads here (own .narrow) out room _ ∙ read-back here out (length lent) k
     report-crosses wrote = loads here (own .narrow) out room _
-    report-crosses (fault f) = loads here (own .narrow) out room _
+    report-crosses (fault f) = loads here (own .narrow) out room _ ∙ ap (λ (g : Fault). back (stored s) out (reportFault here (length lent) g)) (faulted f)
 
     event-holds : (x : Act) → WideAct x → Holds v (stored s) (ev x) (refusal v (ev x)) (crossedBy (stored s) (ev x))
     event-holds (start n a b) (p, q) = call-holds n a b p q

@@ -25,6 +25,7 @@ use Rattle.session.specs.State.{St, st, Out}
 use Rattle.session.proofs.Turns.{Frame}
 use Rattle.boundary.specs.Crossing.{Crossed, isRefusal, back, onLoaded, crossing, stays, crossStart, crossRead, crossWrote, crossFault}
 use Rattle.boundary.specs.Told.{replyNumber, outSize}
+use Rattle.boundary.proofs.Carried.{faulted}
 use Rattle.boundary.proofs.Reports.{NarrowRefusal, lets, by-number, by-feature}
 use Rattle.boundary.proofs.Steps.{Awaits, idle, reads, writes-bytes, closes}
 use Rattle.misuse.specs.Misuse.{Report, hasRead, wrote, fault, Act, start, report, Event, WideAct, Wide, acted, callOf, IsRefused, Unchanged}
@@ -108,4 +109,4 @@ module _ (rec : List ℕ) (bytes : Bytes rec) (e : Event) (w : Wide e) where
       crossing-kept _
       (λ s m. pick-cases Kept (stays (st s (e .rx) (e .msg)) (length (e .lent)) k) (λ _. λ (n, a, b, i). absurd (omega arith)) (λ _. report-kept (hasRead k) x s m))
   event-kept (report wrote) x = crossing-kept _ (report-kept wrote x)
-  event-kept (report (fault f)) x = crossing-kept _ (report-kept (fault f) x)
+  event-kept (report (fault f)) x = rw (faulted f) (crossing-kept _ (report-kept (fault f) x))

@@ -16,10 +16,9 @@ use Rattle.protocol.specs.Features.{featuresOf}
 use Rattle.protocol.specs.Ids.{published}
 use Rattle.protocol.specs.Messages.{stat, sta2, list, lis2, recv, ask, rcv2, send, snd2, chunk, done, quit}
 use Rattle.record.specs.Record.{size}
-use Rattle.session.specs.Core.{faultOf}
 use Rattle.session.specs.Demand3.{Coded}
 use Rattle.session.specs.Host.{Show, told, read, writeRx, writeLent, writeBytes, close, lentOf}
-use Rattle.boundary.specs.Boundary.{callNumber, firstNumber, flagNumber}
+use Rattle.boundary.specs.Boundary.{callNumber, firstNumber, flagNumber, endKind, endCode}
 use Rattle.boundary.specs.Crossing.{Crossed, OpenCrossed, crossOpen, crossStart, crossRead, crossWrote, crossFault}
 use Rattle.boundary.specs.Heard.{heard}
 use Rattle.boundary.specs.Told.{outSize}
@@ -67,7 +66,7 @@ abbrev pub acted : List ℕ → Event → Act → Crossed
 acted rec e (start n a b) = crossStart rec (e .rx) (e .msg) (e .lent) n a b (e .out)
 acted rec e (report (hasRead k)) = crossRead rec (e .rx) (e .msg) (e .lent) k (e .out)
 acted rec e (report wrote) = crossWrote rec (e .rx) (e .msg) (e .lent) (e .out)
-acted rec e (report (fault f)) = crossFault rec (e .rx) (e .msg) (e .lent) (faultOf f) (e .out)
+acted rec e (report (fault f)) = crossFault rec (e .rx) (e .msg) (e .lent) (endKind f) (endCode f) (e .out)
 
 abbrev pub crossedBy : List ℕ → Event → Crossed
 crossedBy rec e = acted rec e (e .act)

@@ -31,6 +31,13 @@ pub const RECORD: usize = 192;
 /// The length of a slice that takes any reply.
 pub const REPLY: usize = 112;
 
+/// How many bytes the read that is asked for still wants: the record's number 9, where tail meets the need, less number 3,
+/// the tail. 0 where no read is asked for.
+pub fn wanted(rec: &[u8; RECORD]) -> usize {
+    let number = |i: usize| u64::from_le_bytes(rec[8 * i..8 * i + 8].try_into().expect("eight bytes"));
+    number(9).saturating_sub(number(3)) as usize
+}
+
 /// Opens a session in `rec`, for buffers of these lengths: 0, or document 01's 1, 2, or 3 for a record of another length.
 pub fn open(rec: &mut [u8], banner: &[u8], rx: usize, msg: usize) -> u32 {
     unsafe { linked::yuglasno_open(rec.as_mut_ptr(), rec.len(), banner.as_ptr(), banner.len(), rx, msg) }

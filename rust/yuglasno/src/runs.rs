@@ -4,7 +4,7 @@ use crate::call::{Call, Report};
 use crate::error::Error;
 use crate::link::{code_of, Fault, Link};
 use crate::numbers::{FileMode, SyncFlags};
-use crate::reply::{Ask, Reply};
+use crate::reply::{Ask, Part, Reply};
 use crate::session::Session;
 use std::io;
 
@@ -156,14 +156,38 @@ impl<R: AsMut<[u8]>, M: AsMut<[u8]>> Session<R, M> {
 
     fn drive(&mut self, link: &mut (impl Link + ?Sized), call: &Call<'_>, mut reply: Reply) -> Ended {
         let mut fault = None;
+        let mut behind = None;
         loop {
             let came = match reply {
                 Reply::Told(number) => return Ended { number, fault },
-                Reply::Ask(Ask::Read(part)) => link.read_window(self.window(part.range())).map(Report::Read),
+                Reply::Ask(Ask::Read(part)) => match behind.take() {
+                    Some(met) => Err(met),
+                    None => self.gather(link, part, &mut behind).map(Report::Read),
+                },
                 Reply::Ask(Ask::Close) => link.close().map(|()| Report::Done),
                 Reply::Ask(_) => link.write_piece(self.piece(call)).map(|()| Report::Done),
             };
             reply = self.tell(call, came.unwrap_or_else(|met| reported(met, &mut fault)));
+        }
+    }
+
+    /// Reads until the session has what it wants or the window is full: a report of fewer bytes would only move the window
+    /// on. A fault behind some bytes is kept until they are reported.
+    fn gather(&mut self, link: &mut (impl Link + ?Sized), part: Part, behind: &mut Option<Fault>) -> Result<usize, Fault> {
+        let enough = self.wanted();
+        let window = self.window(part.range());
+        let enough = enough.min(window.len());
+        let mut count = 0;
+        loop {
+            match link.read_window(&mut window[count..]) {
+                Ok(more) if more == 0 || more >= enough - count => return Ok(count + more),
+                Ok(more) => count += more,
+                Err(met) if count == 0 => return Err(met),
+                Err(met) => {
+                    *behind = Some(met);
+                    return Ok(count);
+                }
+            }
         }
     }
 }

@@ -135,6 +135,12 @@ impl<R: AsMut<[u8]>, M: AsMut<[u8]>> Session<R, M> {
         }
     }
 
+    /// How many bytes the read that is asked for still wants, from one on; any count from one to the window may be
+    /// reported.
+    pub fn wanted(&self) -> usize {
+        raw::wanted(&self.record).max(1)
+    }
+
     pub(crate) fn window(&mut self, range: std::ops::Range<usize>) -> &mut [u8] {
         &mut self.rx.as_mut()[range]
     }
