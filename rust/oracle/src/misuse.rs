@@ -44,7 +44,7 @@ fn bent(bytes: &mut Vec<u8>, rng: &mut Rng) {
 
 /// One misuse, chosen at random. Gives document 01's number that it was answered with.
 pub fn try_one<W>(host: &Host<W>, waits: Waits, lent: &[u8], rng: &mut Rng) -> Result<u32, String> {
-    let mut copy = Copy { rec: host.rec.clone(), rx: host.rx.clone(), msg: host.msg.clone(), out: vec![0; raw::REPLY] };
+    let mut copy = Copy { rec: host.rec.to_vec(), rx: host.rx.clone(), msg: host.msg.clone(), out: vec![0; raw::REPLY] };
     let mut lent = lent.to_vec();
     let which = rng.below(4);
     let mut number = rng.below(18);

@@ -13,7 +13,7 @@ pub enum Step {
 /// A session's memory and its channel.
 #[derive(Clone)]
 pub struct Host<W> {
-    pub rec: Vec<u8>,
+    pub rec: [u8; raw::RECORD],
     pub rx: Vec<u8>,
     pub msg: Vec<u8>,
     pub out: [u8; raw::REPLY],
@@ -23,7 +23,7 @@ pub struct Host<W> {
 impl<W: Wire> Host<W> {
     /// Opens a session; the message buffer is as long as the receive buffer.
     pub fn open(banner: &[u8], rx: Vec<u8>, wire: W) -> Result<Self, u32> {
-        let mut host = Host { rec: vec![0; raw::RECORD], msg: vec![0xEE; rx.len()], rx, out: [0; raw::REPLY], wire };
+        let mut host = Host { rec: [0; raw::RECORD], msg: vec![0xEE; rx.len()], rx, out: [0; raw::REPLY], wire };
         match raw::open(&mut host.rec, banner, host.rx.len(), host.msg.len()) {
             0 => Ok(host),
             number => Err(number),
@@ -77,6 +77,40 @@ impl<W: Wire> Host<W> {
                 }
             };
         }
+    }
+
+    /// A step as the crate's session takes it over a link: reads are gathered until the need is met.
+    #[inline]
+    pub fn run(&mut self, step: Step, lent: &[u8], a: u32, b: u32) -> u32 {
+        let mut reply = raw::start(&mut self.rec, &mut self.rx, &mut self.msg, lent, step as u32, a, b, &mut self.out);
+        loop {
+            if reply & 255 == 0 {
+                return reply >> 8;
+            }
+            reply = if reply == 1 {
+                self.gather(lent)
+            } else {
+                match self.put(reply, lent) {
+                    Ok(()) => raw::wrote(&mut self.rec, &mut self.rx, &mut self.msg, lent, &mut self.out),
+                    Err(fault) => self.fault(fault, lent),
+                }
+            };
+        }
+    }
+
+    #[inline]
+    fn gather(&mut self, lent: &[u8]) -> u32 {
+        let window = self.part(0);
+        let enough = raw::wanted(&self.rec).clamp(1, window.len());
+        let mut count = 0;
+        while count < enough {
+            match self.wire.read(&mut self.rx[window.start + count..window.end]) {
+                Ok(more) => count += more,
+                Err(fault) if count == 0 => return self.fault(fault, lent),
+                Err(_) => break,
+            }
+        }
+        raw::read(&mut self.rec, &mut self.rx, &mut self.msg, lent, count, &mut self.out)
     }
 
     #[inline]

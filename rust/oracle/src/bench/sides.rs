@@ -54,7 +54,7 @@ fn theirs_works<W: Wire>(case: &Case, host: &mut theirs::Host<W>, rx: &mut [u8])
 }
 
 fn done<W: Wire>(s: &mut ours::Host<W>, step: Step, lent: &[u8], a: u32) {
-    assert_eq!(s.step(step, lent, a, 0), 0);
+    assert_eq!(s.run(step, lent, a, 0), 0);
 }
 
 #[inline(never)]
