@@ -1,4 +1,5 @@
 -- `numbered::fault_of` meets its contract. Assumes nothing.
+use native.Mathlib.Omega.{arith}
 use borrow.Author.Tests.{eq-eqb, ne-eqb}
 use Rattle.numbered.proofs.fault_of.Statement.{statement}
 use Rattle.numbered.proofs.fault_of.Tie as tie
@@ -7,5 +8,5 @@ pub fault-of-spec : {M : Type 1} → statement M
 fault-of-spec =
     tie.close
     (tie.spec
-    (λ c. simp (eq-eqb _ _ (c .if1 .taken)))
-    (λ c. simp (ne-eqb _ _ (c .if1 .left))))
+    (λ c. let a = c .before .args in simp (eq-eqb (a .kind) 0 (omega arith)))
+    (λ c. let a = c .before .args in simp (ne-eqb (a .kind) 0 (λ e. c .if1 .left (omega arith)))))
