@@ -42,6 +42,7 @@ pub extern "C" fn yuglasno_open(rec: &mut [u8], banner: &[u8], rx: usize, msg: u
     }
 }
 
+// Starts a call by its number, 1 to 14: a is its mode or its time, b its flags.
 #[no_mangle]
 pub extern "C" fn yuglasno_start(
     rec: &mut [u8],
