@@ -51,6 +51,12 @@ instructions() {
   for name in stat_65544 stat_4096 stat_v2_65544 stat_v2_4096; do row $name stat 1 10; done
 }
 
+# The instructions of yuglasno_read and what it calls, for one report of the pull of 4 MiB in reads of 64 bytes, every read reported.
+report() {
+  valgrind --tool=callgrind --callgrind-out-file=/dev/null --toggle-collect=yuglasno_read $oracle bench pull_64 single 100 2>&1 |
+    awk '/ items, / {reads = $5} /Collected/ {printf "%d reports, %.1f instructions each\n", reads, $4 / reads}'
+}
+
 library() {
   echo "| part | bytes |"
   echo "|---|---|"
@@ -88,6 +94,13 @@ whole run at ten times the size, over the run: 10 where the cost grows with the 
 TEXT
   instructions
   cat <<'TEXT'
+
+Reads are gathered until what the session wants has come, as the Rust crate does. Where every read is reported by itself, a report of the
+pull in reads of 64 bytes costs, within `yuglasno_read` and all that it calls (nearly all of them leave their need short):
+TEXT
+  echo "$(report)"
+  cat <<'TEXT'
+(`valgrind --tool=callgrind --toggle-collect=yuglasno_read rust/target/release/oracle bench pull_64 single 100`).
 
 A long copy by the processor's string move counts an instruction for each byte, one in wider moves far fewer: compare the large reads and
 the composed push by their times.

@@ -20,8 +20,9 @@ fn timed(case: &Case, ops: &[Op], side: &str) -> (Duration, u64) {
             let sum = sides::measured_theirs(case, &mut host, &mut rx);
             (start.elapsed(), sum)
         }
-        "ours" => {
+        "ours" | "single" => {
             let mut host = ours::Host::open(BANNER, rx, case.script()).expect("buffers that open");
+            host.single = side == "single";
             let start = Instant::now();
             let sum = sides::measured_ours(case, &mut host);
             (start.elapsed(), sum)
@@ -37,8 +38,8 @@ fn timed(case: &Case, ops: &[Op], side: &str) -> (Duration, u64) {
 
 /// A single run, for counting its instructions: of this percent of the case's size. Prints the items and the reads, then the time.
 pub fn once(name: &str, side: &str, percent: usize) -> bool {
-    let Some(case) = Case::named(name, percent).filter(|_| SIDES.contains(&side)) else {
-        eprintln!("the benches are {}, the sides {}", CASES.map(|c| c.0).join(", "), SIDES.join(", "));
+    let Some(case) = Case::named(name, percent).filter(|_| SIDES.contains(&side) || side == "single") else {
+        eprintln!("the benches are {}, the sides {}", CASES.map(|c| c.0).join(", "), SIDES.join(", ") + " and single: ours, every read reported");
         return false;
     };
     let ops = sides::noted(&case);

@@ -18,12 +18,14 @@ pub struct Host<W> {
     pub msg: Vec<u8>,
     pub out: [u8; raw::REPLY],
     pub wire: W,
+    /// Whether `run` reports every single read.
+    pub single: bool,
 }
 
 impl<W: Wire> Host<W> {
     /// Opens a session; the message buffer is as long as the receive buffer.
     pub fn open(banner: &[u8], rx: Vec<u8>, wire: W) -> Result<Self, u32> {
-        let mut host = Host { rec: [0; raw::RECORD], msg: vec![0xEE; rx.len()], rx, out: [0; raw::REPLY], wire };
+        let mut host = Host { rec: [0; raw::RECORD], msg: vec![0xEE; rx.len()], rx, out: [0; raw::REPLY], wire, single: false };
         match raw::open(&mut host.rec, banner, host.rx.len(), host.msg.len()) {
             0 => Ok(host),
             number => Err(number),
@@ -79,7 +81,7 @@ impl<W: Wire> Host<W> {
         }
     }
 
-    /// A step as the crate's session takes it over a link: reads are gathered until the need is met.
+    /// A step as the crate's session takes it over a link: reads are gathered until the need is met, unless `single`.
     #[inline]
     pub fn run(&mut self, step: Step, lent: &[u8], a: u32, b: u32) -> u32 {
         let mut reply = raw::start(&mut self.rec, &mut self.rx, &mut self.msg, lent, step as u32, a, b, &mut self.out);
@@ -101,7 +103,7 @@ impl<W: Wire> Host<W> {
     #[inline]
     fn gather(&mut self, lent: &[u8]) -> u32 {
         let window = self.part(0);
-        let enough = raw::wanted(&self.rec).clamp(1, window.len());
+        let enough = if self.single { 1 } else { raw::wanted(&self.rec).clamp(1, window.len()) };
         let mut count = 0;
         while count < enough {
             match self.wire.read(&mut self.rx[window.start + count..window.end]) {
