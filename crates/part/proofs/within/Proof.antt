@@ -1,0 +1,29 @@
+-- `part::within` meets its contract. Assumes nothing.
+use Prim.Native.Nat.{_+_, _-_}
+use mathlib.Core.Path.{_≡_, sym}
+use native.Mathlib.Omega.{arith}
+use borrow.Author.Needs.{needs}
+use Rattle.part.proofs.Laws.{inside-in, inside-out}
+use Rattle.part.proofs.within.Statement.{statement}
+use Rattle.part.proofs.within.Tie as tie
+
+returns-3 : tie.Need-returns-3
+returns-3 c =
+    let a = c .before .before .before .args in
+    let size : a .at + a .len - a .at ≡ a .len = omega arith in
+    rw size (sym (inside-in _ _ _ (omega arith)))
+
+pub within-spec : {M : Type 1} → statement M
+within-spec =
+    tie.close
+    (tie.spec
+    (λ c. search needs)
+    (λ c. sym (inside-out _ _ _ (omega arith)))
+    (λ c. search needs)
+    (λ c. search needs)
+    (λ c. sym (inside-out _ _ _ (omega arith)))
+    (λ c. search needs)
+    (λ c. search needs)
+    (λ c. search needs)
+    (λ c. search needs)
+    returns-3)
