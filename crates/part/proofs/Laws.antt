@@ -14,9 +14,9 @@ use Rattle.part.specs.Part.{inside, handed}
 
 -- a part that lies in its buffer, and one that does not
 module _ (b : List ℕ) (at len : ℕ) where
-  pub inside-in : at + len ≤ length b → inside b at len ≡ take len (drop at b)
+  pub inside-in : (n : ℕ) → n ≡ len → at + len ≤ length b → take n (drop at b) ≡ inside b at len
   unfolding inside
-  inside-in h = rw (le-leb _ _ h)
+  inside-in n e h = rw (le-leb _ _ h, e)
 
   pub inside-out : length b < at + len → inside b at len ≡ []
   unfolding inside
