@@ -1,0 +1,2 @@
+pub mod Octal
+pub mod Laws
