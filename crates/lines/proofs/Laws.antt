@@ -11,9 +11,10 @@ use lib.ListN.{length, set, getD, take, drop, length-append, take-append-drop}
 use lib.Seq.{set-split, take-suc, take-length, append-snoc}
 use Rattle.protocol.specs.Bytes.{ascii, over, put, putLength}
 use Rattle.protocol.specs.Decimal.{decimal}
+use Rattle.protocol.specs.Records.{Stat}
 use Rattle.protocol.proofs.Bytes.{over-length, over-over, put-in, putLength-in, end-whole, end-back, end-put, end-putLength}
 use Rattle.protocol.proofs.Decimal.{decimal-length}
-use Rattle.lines.specs.Lines.{octal, hexDigit, hexadecimal, numbers, laidIn, Laid}
+use Rattle.lines.specs.Lines.{octal, hexDigit, hexadecimal, newline, numbers, entryLine, endLine, laidIn, entryRoom, endRoom, Laid}
 use Rattle.lines.proofs.Octal.{octal-length}
 
 -- one byte stored
@@ -51,9 +52,21 @@ pub laid-in : (room : ℕ) {b : List ℕ} {at : ℕ} {m c : List ℕ} {k : ℕ} 
 unfolding laidIn
 laid-in room {b} {at} h l = rw (le-leb (at + room) (length b) h, l .bytes, l .ends)
 
+pub laid-of : (room : ℕ) {c : List ℕ} {k : ℕ} (b : List ℕ) (at : ℕ) (m : List ℕ) → at + room ≤ length b
+    → _≡_ {A = List ℕ × ℕ} (c, k) (laidIn room b at m) → Laid b at m c k
+unfolding laidIn
+laid-of room b at m h e =
+    let f = rw (le-leb (at + room) (length b) h) at e in
+    record { bytes = ap (λ (p : List ℕ × ℕ). p .0) f; ends = ap (λ (p : List ℕ × ℕ). p .1) f }
+
 pub laid-out : (room : ℕ) (b : List ℕ) (at : ℕ) (m : List ℕ) → length b < at + room → _≡_ {A = List ℕ × ℕ} (b, at) (laidIn room b at m)
 unfolding laidIn
 laid-out room b at m h = rw (lt-leb _ _ h)
+
+-- two digits for each byte
+pub hex-length : (s : List ℕ) → length (hexadecimal s) ≡ 2 * length s
+hex-length [] = refl
+hex-length (x ∷ s) = omega (arith, hex-length s)
 
 -- the longest line of each kind
 pub numbers-length : (mode size mtime : ℕ) → mode < 0x1_0000_0000 → size < 0x1_0000_0000 → mtime < 0x1_0000_0000
@@ -68,10 +81,16 @@ numbers-length mode size mtime h i j =
       length-append (octal mode) (ascii "," ++ decimal size),
     )
 
--- two digits for each byte
-pub hex-length : (s : List ℕ) → length (hexadecimal s) ≡ 2 * length s
-hex-length [] = refl
-hex-length (x ∷ s) = omega (arith, hex-length s)
+pub entry-length : (s : Stat) (name : List ℕ) → s .mode < 0x1_0000_0000 → s .size < 0x1_0000_0000 → s .mtime < 0x1_0000_0000
+    → length (entryLine s name) ≤ entryRoom name
+unfolding entryLine
+entry-length s name h i j =
+    omega (arith, numbers-length (s .mode) (s .size) (s .mtime) h i j, hex-length name,
+    length-append (numbers (s .mode) (s .size) (s .mtime)) (ascii "," ++ hexadecimal name ++ newline), length-append (ascii "," ++ hexadecimal name) newline)
+
+pub end-length : (n : ℕ) → n < 0x1_0000_0000 → length (endLine n) ≤ endRoom
+unfolding endLine
+end-length n h = omega (arith, decimal-length n h, length-append (ascii "end," ++ decimal n) newline, length-append (ascii "end,") (decimal n))
 
 hex-append : (s t : List ℕ) → hexadecimal (s ++ t) ≡ hexadecimal s ++ hexadecimal t
 hex-append [] t = refl

@@ -87,8 +87,8 @@ module _ (φ : Frame) (u : List ℕ) (live : φ .ended ≡ false) (lent : φ .le
   unfolding paper faultAt
   read-settled s i n p w =
       let e : reportFault s 0 (F.Error 0) ≡ faultAt (s .ses .pending) s (F.Error 0) =
-          fault-step s 0 (w .good) (ap (λ (ψ : Frame). ψ .ended) (w .frame) ∙ live) (ap (λ (ψ : Frame). ψ .lent) (w .frame) ∙ lent) (s .ses .pending) refl
-          (ap isIdle (w .pend)) (F.Error 0)
+      fault-step s 0 (w .good) (ap (λ (ψ : Frame). ψ .ended) (w .frame) ∙ live) (ap (λ (ψ : Frame). ψ .lent) (w .frame) ∙ lent) (s .ses .pending) refl
+      (ap isIdle (w .pend)) (F.Error 0)
       in
       subst (λ (o : Out). Settled (φ .capacity) u (toldBy o)) (sym (e ∙ ap (λ (q : Pending). faultAt q s (F.Error 0)) (w .pend)))
       (record {
@@ -171,9 +171,9 @@ module _ (rx msg : List ℕ) (least : 8 ≤ length rx) (room : length rx ≤ len
         let j : List ℕ = drop n rx in
         let e : length v ≡ n = length-take-le n rx within in
         let k : Kept φ false (λ x. reads (length rx) (held s₀) (v ++ x)) (readAt (s₁ .ses .pending) s₁ n) =
-            subst (λ (m : ℕ). Kept φ false (λ x. reads (length rx) (held s₀) (v ++ x)) (readAt (s₁ .ses .pending) s₁ m)) e
-            (subst (λ (b : List ℕ). Kept φ false (λ x. reads (length rx) (held s₀) (v ++ x)) (readAt (s₁ .ses .pending) (st (s₁ .ses) b msg) (length v)))
-            (over-all rx n) (read-ok (waits .1) v j (omega arith) (omega (arith, length-drop n rx))))
+        subst (λ (m : ℕ). Kept φ false (λ x. reads (length rx) (held s₀) (v ++ x)) (readAt (s₁ .ses .pending) s₁ m)) e
+        (subst (λ (b : List ℕ). Kept φ false (λ x. reads (length rx) (held s₀) (v ++ x)) (readAt (s₁ .ses .pending) (st (s₁ .ses) b msg) (length v)))
+        (over-all rx n) (read-ok (waits .1) v j (omega arith) (omega (arith, length-drop n rx))))
         in
         subst (λ (o : Out). Kept φ false (reads (length rx) v) o) (sym (read-step s₁ 0 (waits .1 .good) refl refl (s₁ .ses .pending) refl refl n))
         (kept-eq φ false (reads (length rx) v) (λ x. reads (length rx) (held s₀) (v ++ x)) (readAt (s₁ .ses .pending) s₁ n)

@@ -44,6 +44,10 @@ config c = reader [] c accepted
 abbrev pub answers : ℕ → ℕ → List ℕ → List Answer
 answers c n input = plainAnswers (config c) (error 0) (steps n) input
 
--- The whole output. Each entry takes at least a byte of the input, so that one step more than it has bytes comes to the end.
+-- The lines behind the heading. Each entry takes at least a byte of the input, so that one step more than it has bytes comes to the end.
+unfoldable pub listed : (capacity : ℕ) → (input : List ℕ) → List ℕ
+listed c input = linesOf (answers c (suc (length input)) input)
+
+-- the whole output
 unfoldable pub printed : (capacity : ℕ) → (input : List ℕ) → List ℕ
-printed c input = heading ++ linesOf (answers c (suc (length input)) input)
+printed c input = heading ++ listed c input

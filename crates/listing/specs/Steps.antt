@@ -1,17 +1,24 @@
 -- The program's steps on the session: what a step comes to where no more input follows.
 -- Assumes nothing.
-use Prim.Native.Nat.{ℕ}
-use mathlib.Core.List.{List}
+use Prim.Native.Nat.{ℕ, _+_, _*_, _≤_}
+use mathlib.Core.List.{List, []}
+use mathlib.Core.Path.{_≡_}
 use lib.Dec.{eqb}
+use lib.ListN.{length}
 use Rattle.protocol.specs.Bytes.{pick}
+use Rattle.protocol.specs.Features.{featuresOf}
+use Rattle.protocol.specs.Records.{Stat}
 use Rattle.format_record.specs.declared.StatV1.{StatV1}
+use Rattle.lines.specs.Lines.{entryLine, laidIn, entryRoom, endRoom}
 use Rattle.session.specs.declared.Answer.{Answer}
 use Rattle.session.specs.declared.Answer.the-variants as A
 use Rattle.session.specs.declared.Fault.the-variants as F
 use Rattle.session.specs.declared.Reply.{Reply}
 use Rattle.session.specs.declared.Reply.the-variants as R
+use Rattle.session.specs.declared.Session.{Session}
 use Rattle.session.specs.declared.Version.the-variants.{V1}
-use Rattle.session.specs.Calls.{entryCall}
+use Rattle.session.specs.Calls.{fresh, entryCall}
+use Rattle.session.specs.Core.{featuresFrom}
 use Rattle.session.specs.Reports.{reportRead, reportFault}
 use Rattle.session.specs.State.{St, st, Out}
 use Rattle.listing.specs.declared.Heard.{Heard}
@@ -71,3 +78,16 @@ lineOf (A.Fail len) = L.End 14
 lineOf (A.Unexpected a b c d) = L.End 15
 lineOf (A.Errno c) = L.End 16
 lineOf A.TooLarge = L.End 17
+
+-- the line of an entry, laid into a buffer
+abbrev pub shown : List ℕ → ℕ → Stat → List ℕ → List ℕ × ℕ
+shown out at s name = laidIn (entryRoom name) out at (entryLine s name)
+
+-- A fresh session on buffers that opening takes, n bytes of input in the first of them, and room in a buffer of `most` bytes from `from` on:
+-- an entry's line has at most twice the bytes of the entry.
+pub record Ready (s : Session) (rx msg : List ℕ) (n most from : ℕ) : Type 0 where
+  pub fresh : s ≡ fresh (length rx) (length msg) (featuresFrom (featuresOf []))
+  pub least : 8 ≤ length rx
+  pub aside : length rx ≤ length msg
+  pub within : n ≤ length rx
+  pub room : from + 2 * n + endRoom ≤ most

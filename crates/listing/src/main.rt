@@ -4,11 +4,14 @@ ghost use mathlib.Core.List.{List};
 ghost use mathlib.Core.Path.{_≡_};
 ghost use Prim.Native.Nat.{ℕ, _+_, _*_, _≤_};
 ghost use lib.ListN.{length, take};
+ghost use Rattle.format_record.specs.Told.{toldStat};
 ghost use Rattle.lines.specs.Lines.{Laid};
+ghost use Rattle.part.specs.Part.{handed};
 ghost use Rattle.session.specs.Calls.{entryCall};
+ghost use Rattle.session.specs.Shown.{paper};
 ghost use Rattle.session.specs.State.{st, out};
-ghost use Rattle.listing.specs.Listing.{printed};
-ghost use Rattle.listing.specs.Steps.{told, toldBy, ended, firstOut, lineOf};
+ghost use Rattle.listing.specs.Listing.{listed};
+ghost use Rattle.listing.specs.Steps.{told, toldBy, ended, firstOut, lineOf, shown, Ready};
 use calls::Opened;
 use calls::next_entry;
 use calls::open;
@@ -140,6 +143,44 @@ fn first(s: Session, rx: &mut [u8], msg: &mut [u8], n: usize) -> Heard
 {
     let step = begin(s, rx, msg, n);
     settle(step, rx, msg)
+}
+
+// The line of the entry a, whose numbers are stat.
+fn show<'a>(
+    out: &mut [u8],
+    at: usize,
+    a: Answer,
+    stat: StatV1,
+    rx: &'a [u8],
+    msg: &'a [u8],
+) -> usize
+    ensures { λ r. ⌜ (now (out .exit), r) ≡ shown (now (out .entry)) at (toldStat stat) (handed (paper (now (rx .entry)) (now (msg .entry)) a)) ⌝ }
+{
+    let name = part(a, rx, msg);
+    put_entry(out, at, stat, name)
+}
+
+// A line for each entry, from `from` on, and the end; where they end.
+fn walk(s: Session, rx: &mut [u8], msg: &mut [u8], n: usize, out: &mut [u8], from: usize) -> usize
+    requires { ⌜ Ready s (now rx) (now msg) n (length (now out)) from ⌝ }
+    ensures { λ r. ⌜ Laid (now (out .entry)) from (listed (length (now (rx .entry))) (take n (now (rx .entry)))) (now (out .exit)) r × (r ≤ length (now (out .exit))) ⌝ }
+{
+    let mut at = from;
+    let mut heard = first(s, rx, msg, n);
+    loop {
+        let answer = heard.answer;
+        let line = line_of(answer);
+        match line {
+            Line::End(number) => {
+                return put_end(out, at, number);
+            }
+            Line::Entry(stat) => {
+                at = show(out, at, answer, stat, rx, msg);
+                let session = heard.session;
+                heard = next(session, rx, msg);
+            }
+        }
+    }
 }
 
 fn main() {}
