@@ -14,7 +14,7 @@ use Rattle.protocol.specs.Decimal.{decimal}
 use Rattle.protocol.specs.Records.{Stat}
 use Rattle.protocol.proofs.Bytes.{over-length, over-over, put-in, putLength-in, end-whole, end-back, end-put, end-putLength}
 use Rattle.protocol.proofs.Decimal.{decimal-length}
-use Rattle.lines.specs.Lines.{octal, hexDigit, hexadecimal, newline, numbers, entryLine, endLine, laidIn, entryRoom, endRoom, Laid}
+use Rattle.lines.specs.Lines.{octal, hexDigit, hexadecimal, newline, numbers, heading, entryLine, endLine, laidIn, headingRoom, entryRoom, endRoom, Laid}
 use Rattle.lines.proofs.Octal.{octal-length}
 
 -- one byte stored
@@ -69,6 +69,10 @@ hex-length [] = refl
 hex-length (x ∷ s) = omega (arith, hex-length s)
 
 -- the longest line of each kind
+pub heading-length : length heading ≡ headingRoom
+unfolding heading
+heading-length = refl
+
 pub numbers-length : (mode size mtime : ℕ) → mode < 0x1_0000_0000 → size < 0x1_0000_0000 → mtime < 0x1_0000_0000
     → length (numbers mode size mtime) ≤ 33
 numbers-length mode size mtime h i j =
@@ -85,8 +89,13 @@ pub entry-length : (s : Stat) (name : List ℕ) → s .mode < 0x1_0000_0000 → 
     → length (entryLine s name) ≤ entryRoom name
 unfolding entryLine
 entry-length s name h i j =
-    omega (arith, numbers-length (s .mode) (s .size) (s .mtime) h i j, hex-length name,
-    length-append (numbers (s .mode) (s .size) (s .mtime)) (ascii "," ++ hexadecimal name ++ newline), length-append (ascii "," ++ hexadecimal name) newline)
+    omega (
+      arith,
+      numbers-length (s .mode) (s .size) (s .mtime) h i j,
+      hex-length name,
+      length-append (numbers (s .mode) (s .size) (s .mtime)) (ascii "," ++ hexadecimal name ++ newline),
+      length-append (ascii "," ++ hexadecimal name) newline,
+    )
 
 pub end-length : (n : ℕ) → n < 0x1_0000_0000 → length (endLine n) ≤ endRoom
 unfolding endLine

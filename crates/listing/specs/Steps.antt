@@ -9,7 +9,7 @@ use Rattle.protocol.specs.Bytes.{pick}
 use Rattle.protocol.specs.Features.{featuresOf}
 use Rattle.protocol.specs.Records.{Stat}
 use Rattle.format_record.specs.declared.StatV1.{StatV1}
-use Rattle.lines.specs.Lines.{entryLine, laidIn, entryRoom, endRoom}
+use Rattle.lines.specs.Lines.{entryLine, laidIn, headingRoom, entryRoom, endRoom}
 use Rattle.session.specs.declared.Answer.{Answer}
 use Rattle.session.specs.declared.Answer.the-variants as A
 use Rattle.session.specs.declared.Fault.the-variants as F
@@ -82,6 +82,13 @@ lineOf A.TooLarge = L.End 17
 -- the line of an entry, laid into a buffer
 abbrev pub shown : List ℕ → ℕ → Stat → List ℕ → List ℕ × ℕ
 shown out at s name = laidIn (entryRoom name) out at (entryLine s name)
+
+-- buffers that opening takes, n bytes of input in the first of them, and room for the whole output
+pub record Ample (x m n most : ℕ) : Type 0 where
+  pub least : 8 ≤ x
+  pub aside : x ≤ m
+  pub within : n ≤ x
+  pub room : headingRoom + 2 * n + endRoom ≤ most
 
 -- A fresh session on buffers that opening takes, n bytes of input in the first of them, and room in a buffer of `most` bytes from `from` on:
 -- an entry's line has at most twice the bytes of the entry.

@@ -10,8 +10,8 @@ ghost use Rattle.part.specs.Part.{handed};
 ghost use Rattle.session.specs.Calls.{entryCall};
 ghost use Rattle.session.specs.Shown.{paper};
 ghost use Rattle.session.specs.State.{st, out};
-ghost use Rattle.listing.specs.Listing.{listed};
-ghost use Rattle.listing.specs.Steps.{told, toldBy, ended, firstOut, lineOf, shown, Ready};
+ghost use Rattle.listing.specs.Listing.{listed, printed};
+ghost use Rattle.listing.specs.Steps.{told, toldBy, ended, firstOut, lineOf, shown, Ready, Ample};
 use calls::Opened;
 use calls::next_entry;
 use calls::open;
@@ -183,4 +183,26 @@ fn walk(s: Session, rx: &mut [u8], msg: &mut [u8], n: usize, out: &mut [u8], fro
     }
 }
 
-fn main() {}
+// The whole output, for n bytes of input at the front of rx; how many bytes it has.
+fn list(rx: &mut [u8], msg: &mut [u8], n: usize, out: &mut [u8]) -> usize
+    requires { ⌜ Ample (length (now rx)) (length (now msg)) n (length (now out)) ⌝ }
+    ensures { λ r. ⌜ Laid (now (out .entry)) 0 (printed (length (now (rx .entry))) (take n (now (rx .entry)))) (now (out .exit)) r × (r ≤ length (now (out .exit))) ⌝ }
+{
+    let opened = open(b"", rx.len(), msg.len());
+    match opened {
+        Opened::Session(s) => {
+            let from = put_heading(out, 0);
+            walk(s, rx, msg, n, out, from)
+        }
+        Opened::Refused(_) => 0,
+    }
+}
+
+fn main() {
+    let mut rx = [0u8; 4096];
+    let mut msg = [0u8; 4096];
+    let mut out = [0u8; 8228];
+    let n = io::read_full(STDIN_FILENO, &mut rx);
+    let count = list(&mut rx, &mut msg, n, &mut out);
+    io::write_all(STDOUT_FILENO, &out[..count]);
+}

@@ -53,9 +53,11 @@ loop-again c =
     let l = c .before .before .before .before .before .before .before .before .before .before .before .before .before .before .before .before .before .before .loop in
     let line = c .before .before .before .before .before .before .before .before .before .before .before .before .before .before .before .line2 .given in
     let is = sym (c .before .before .before .before .before .before .before .before .before .before .before .before .before .before .before .before .before .line-of .ensures) ∙ line .1 in
-    let fits = c .before .before .before .before .before .before .before .before .before .before .before .before .before .before .known-told2 .given in
-    (walk-goes (l .inv .0) _ is (omega (arith, fits)) (omega (arith, fits)) (omega (arith, fits)) _ _ _ _ (c .before .before .before .before .next .result) (c .before .before .before .before .before .before .before .before .before .before .show .ensures) (c .before .before .before .before .next .ensures),
-    c .before .before .before .before .next .kept .1 .0 ∙ l .inv .1, c .before .before .before .before .next .kept .1 .1 .0 ∙ l .inv .2)
+    let fits = c .before .before .before .before .before .before .before .before .before .before .before .before .before .before .known-told2 .given in (
+      walk-goes (l .inv .0) _ is (omega (arith, fits)) (omega (arith, fits)) (omega (arith, fits)) _ _ _ _ (c .before .before .before .before .next .result) (c .before .before .before .before .before .before .before .before .before .before .show .ensures) (c .before .before .before .before .next .ensures),
+      c .before .before .before .before .next .kept .1 .0 ∙ l .inv .1,
+      c .before .before .before .before .next .kept .1 .1 .0 ∙ l .inv .2,
+    )
 
 pub walk-spec : {M : Type 1} → statement M
 walk-spec =

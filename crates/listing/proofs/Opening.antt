@@ -1,0 +1,24 @@
+-- Opening on buffers that it takes: the fresh session. Assumes nothing.
+use Prim.Native.Nat.{ℕ, _≤_}
+use mathlib.Core.List.{[]}
+use mathlib.Core.Path.{_≡_, refl, sym, _∙_}
+use native.Mathlib.Omega.{arith}
+use borrow.Author.Tests.{le-ltb}
+use Rattle.protocol.specs.Features.{featuresOf}
+use Rattle.calls.specs.Opening.{opened}
+use Rattle.calls.specs.declared.Opened.{Opened}
+use Rattle.calls.specs.declared.Opened.the-variants as O
+use Rattle.session.specs.Calls.{fresh, openRefusal}
+use Rattle.session.specs.Core.{featuresFrom}
+use Rattle.session.specs.declared.Session.{Session}
+
+module _ (x m : ℕ) (least : 8 ≤ x) (aside : x ≤ m) where
+  opens : opened [] x m ≡ O.Session (fresh x m (featuresFrom (featuresOf [])))
+  unfolding opened openRefusal
+  opens = rw (le-ltb x 8 least, le-ltb m x aside)
+
+  pub session-is : {o : Opened} {s : Session} → o ≡ opened [] x m → o ≡ O.Session s → s ≡ fresh x m (featuresFrom (featuresOf []))
+  session-is e f = let g = opens in cc
+
+  pub not-refused : {o : Opened} {n : ℕ} → o ≡ opened [] x m → o ≡ O.Refused n → ⊥
+  not-refused e f = let g = opens in let z : _≡_ {A = ℕ} 0 1 = cc in omega arith
