@@ -6,7 +6,6 @@ use native.Mathlib.Nat.{add-zero}
 use native.Mathlib.Numerals.{add-one}
 use native.Mathlib.Omega.{arith}
 use borrow.Author.Tests.{le-leb, lt-leb}
-use lib.Dec.{leb}
 use lib.ListN.{length, set, getD, take, drop, length-append, take-append-drop}
 use lib.Seq.{set-split, take-suc, take-length, append-snoc}
 use Rattle.protocol.specs.Bytes.{ascii, over, put, putLength}

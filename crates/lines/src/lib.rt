@@ -1,7 +1,7 @@
 // The lines that the program `listing` prints, laid into a buffer: each function gives the place where its line ends.
-ghost use mathlib.Core.List.{List, [], _∷_, _++_};
+ghost use mathlib.Core.List.{[], _∷_, _++_};
 ghost use mathlib.Core.Path.{_≡_};
-ghost use Prim.Native.Nat.{ℕ, _+_, _<_, _≤_, _*_};
+ghost use Prim.Native.Nat.{_+_, _<_, _≤_, _*_};
 ghost use lib.ListN.{length};
 ghost use Rattle.protocol.specs.Bytes.{ascii};
 ghost use Rattle.protocol.specs.Decimal.{decimal};

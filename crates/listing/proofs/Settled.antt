@@ -1,21 +1,20 @@
 -- A listing step of the program is the plain reader's, where all the input has come: from any session that waits for nothing, and the first.
 -- Assumes nothing.
 use Prim.Native.Nat.{ℕ, _+_, _-_, _≤_, _<_}
-use mathlib.Core.Bool.{Bool, true, false}
+use mathlib.Core.Bool.{false}
 use mathlib.Core.List.{List, [], _++_, append-nil}
 use mathlib.Core.Path.{_≡_, refl, sym, ap, _∙_, subst}
 use native.Mathlib.Decide.{ℕ-discrete}
 use native.Mathlib.Nat.{zero-add}
 use native.Mathlib.Omega.{arith}
 use borrow.Author.Tests.{lt-ltb, le-ltb}
-use lib.ListN.{length, take, drop, length-append, length-drop, take-append-drop, drop-of-length-le}
+use lib.ListN.{length, take, drop, length-drop, take-append-drop, drop-of-length-le}
 use lib.Seq.{length-take-le}
 use Rattle.protocol.specs.Answers.{broken, error}
 use Rattle.protocol.specs.Bytes.{over}
 use Rattle.protocol.specs.Calls.{v1, nextEntry, refusal}
 use Rattle.protocol.specs.Ids.{published}
-use Rattle.protocol.specs.Reader as Reader
-use Rattle.protocol.specs.Reader.{Prog, Result, short, plain, entryWays, next, written, accepted, program, reply, plainCall}
+use Rattle.protocol.specs.Reader.{Prog, Result, plain, entryWays, next, written, accepted, program, reply, plainCall}
 use Rattle.session.specs.declared.Answer.{Answer}
 use Rattle.session.specs.declared.Fault.the-variants as F
 use Rattle.session.specs.declared.Pending.{Pending}
@@ -30,14 +29,13 @@ use Rattle.session.specs.Calls.{isIdle, callRefusal, entryCall}
 use Rattle.session.specs.Phases.{wants}
 use Rattle.session.specs.Reports.{readAt, reportRead, faultAt, reportFault}
 use Rattle.session.specs.Shown.{paper}
-use Rattle.session.specs.State as S
 use Rattle.session.specs.State.{St, st, Out, out, begun, Good}
 use Rattle.session.specs.Steps.{reading, asked, hopped, pumped, readOn}
 use Rattle.session.proofs.Buf.{good-pending}
 use Rattle.session.proofs.Demand3.{begins, begins-good, begins-empty}
 use Rattle.session.proofs.Misfit.{fits-misfit}
 use Rattle.session.proofs.Run.{read-step, fault-step}
-use Rattle.session.proofs.Turns.{held, cont, Frame, frameOf, Waits, Ends, KeptOut, Kept, kept-eq, waits-short, at, pumped-ok, read-ok, rest-header}
+use Rattle.session.proofs.Turns.{held, cont, Frame, frameOf, Waits, Ends, KeptOut, Kept, kept-eq, waits-short, pumped-ok, read-ok}
 use Rattle.listing.specs.Listing.{config}
 use Rattle.listing.specs.Steps.{Told, toldBy, ended, firstOut}
 use Rattle.listing.proofs.Steps.{first-none, first-some}

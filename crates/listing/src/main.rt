@@ -2,7 +2,7 @@
 // go straight into the receive buffer, which is the window that the first listing step asks.
 ghost use mathlib.Core.List.{List};
 ghost use mathlib.Core.Path.{_≡_};
-ghost use Prim.Native.Nat.{ℕ, _+_, _*_, _≤_};
+ghost use Prim.Native.Nat.{ℕ, _≤_};
 ghost use lib.ListN.{length, take};
 ghost use Rattle.format_record.specs.Told.{toldStat};
 ghost use Rattle.lines.specs.Lines.{Laid};

@@ -2,7 +2,6 @@
 use native.Mathlib.Omega.{arith}
 use borrow.Author.Needs.{needs}
 use denote.Ref.{now}
-use Rattle.format_record.specs.Told.{toldStat}
 use Rattle.lines.specs.Lines.{entryLine, entryRoom}
 use Rattle.lines.proofs.Laws.{numbers-length, laid-laid, laid-in, laid-out}
 use Rattle.lines.proofs.put_entry.Statement.{statement}

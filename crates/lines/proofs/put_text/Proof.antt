@@ -1,6 +1,5 @@
 -- `lines::put_text` meets its contract. Assumes nothing.
 use mathlib.Core.Path.{refl, _∙_}
-use native.Mathlib.Omega.{arith}
 use borrow.Author.Needs.{needs}
 use Rattle.protocol.proofs.Bytes.{put-in}
 use Rattle.lines.proofs.put_text.Statement.{statement}

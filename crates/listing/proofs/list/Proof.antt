@@ -1,10 +1,9 @@
 -- `listing::list` meets its contract: the heading, and the lines behind it. Assumes nothing.
-use Prim.Native.Nat.{_+_, _≤_}
 use native.Mathlib.Omega.{arith}
 use borrow.Author.Needs.{needs}
 use denote.Ref.{now}
 use lib.ListN.{length}
-use Rattle.lines.specs.Lines.{heading, headingRoom, Laid}
+use Rattle.lines.specs.Lines.{heading, headingRoom}
 use Rattle.lines.proofs.Laws.{heading-length, laid-length, laid-laid, laid-of}
 use Rattle.listing.specs.Listing.{printed}
 use Rattle.listing.proofs.Opening.{session-is, not-refused}

@@ -1,7 +1,7 @@
 -- `listing::walk` meets its contract. The loop's invariant: the lines laid so far and those of the plain reader's next answers are all that is to be
 -- printed. The measure is what is held, and nothing at the end. Assumes nothing.
 use mathlib.Core.List.{List}
-use mathlib.Core.Path.{_≡_, refl, sym, ap, subst, _∙_}
+use mathlib.Core.Path.{_≡_, refl, sym, subst, _∙_}
 use Prim.Native.Nat.{ℕ, _≤_}
 use native.Mathlib.Omega.{arith}
 use borrow.Author.Needs.{needs}

@@ -1,9 +1,6 @@
 -- `part::part` meets its contract: an arm for each answer. Assumes nothing.
-use mathlib.Core.List.{List}
 use mathlib.Core.Path.{refl, sym, _∙_}
-use Prim.Native.Nat.{ℕ}
 use borrow.Author.Needs.{needs}
-use Rattle.protocol.specs.Answers as P
 use Rattle.session.specs.Shown.{paper}
 use Rattle.part.proofs.Laws.{part-handed, arm}
 use Rattle.part.proofs.part.Statement.{statement}
