@@ -46,7 +46,7 @@ fn smaller(a: usize, b: usize) -> usize
     if a < b { a } else { b }
 }
 
-fn stat_size(v: Version) -> usize
+pub fn stat_size(v: Version) -> usize
     ensures { λ r. ⌜ r ≡ statSizeOf v ⌝ }
 {
     match v {
@@ -55,7 +55,7 @@ fn stat_size(v: Version) -> usize
     }
 }
 
-fn entry_size(v: Version) -> usize
+pub fn entry_size(v: Version) -> usize
     ensures { λ r. ⌜ r ≡ entrySizeOf v ⌝ }
 {
     match v {
@@ -104,7 +104,7 @@ fn goes(drops: usize, p: Phase) -> Turn
 
 // ---- a header
 
-fn stat_id(v: Version) -> u32
+pub fn stat_id(v: Version) -> u32
     ensures { λ r. ⌜ r ≡ le (letters (statIdOf v)) ⌝ }
 {
     match v {
@@ -113,7 +113,7 @@ fn stat_id(v: Version) -> u32
     }
 }
 
-fn entry_id(v: Version) -> u32
+pub fn entry_id(v: Version) -> u32
     ensures { λ r. ⌜ r ≡ le (letters (entryIdOf v)) ⌝ }
 {
     match v {
