@@ -87,7 +87,7 @@ fn put_three(out: &mut [u8], a: u64, b: u64, c: u64)
 }
 
 // Kind, start and length, then the numbers of a stat.
-fn put_stat(out: &mut [u8], kind: u64, at: u64, len: u64, s: StatV1)
+pub fn put_stat(out: &mut [u8], kind: u64, at: u64, len: u64, s: StatV1)
     ensures { λ _. ⌜ now (out .exit) ≡ put (now (out .entry)) 0 (words (kind ∷ at ∷ len ∷ statWords s)) ⌝ }
 {
     if out.len() < 48 {
@@ -99,7 +99,7 @@ fn put_stat(out: &mut [u8], kind: u64, at: u64, len: u64, s: StatV1)
     put_u64(out, 40, s.mtime as u64);
 }
 
-fn put_stat_v2(out: &mut [u8], kind: u64, at: u64, len: u64, s: StatV2)
+pub fn put_stat_v2(out: &mut [u8], kind: u64, at: u64, len: u64, s: StatV2)
     ensures { λ _. ⌜ now (out .exit) ≡ put (now (out .entry)) 0 (words (kind ∷ at ∷ len ∷ statV2Words s)) ⌝ }
 {
     if out.len() < 112 {

@@ -58,7 +58,7 @@ module _ (rec : List ℕ) (x m : ℕ) where
   s = sessionOf (wordOf rec)
 
   -- the session fits its buffers where the numbers do
-  fits-of : Stands rec x m → Fits s x m
+  pub fits-of : Stands rec x m → Fits s x m
   unfolding sessionOf
   fits-of h =
       let n : (i : ℕ) → numberIn rec i ≡ wordOf rec i = λ i. number-in rec i (h .sized) in

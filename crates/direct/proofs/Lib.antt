@@ -1,0 +1,6 @@
+-- `Whole`: what is held whole is answered at once. `Entries`: an entry as the code reads and tells it. `Taken`: the crossing of a record
+-- that stands. `Listing`: a listing step that is taken is its crossing.
+pub mod Whole
+mod Entries
+mod Taken
+mod Listing

@@ -1,0 +1,110 @@
+// Steps that are taken at once, on the numbers of a lent record: a short cut for loading its session, stepping it and storing it again.
+// Each is tried first. Where it is not taken nothing is altered, and the long way is gone.
+ghost use mathlib.Core.List.{List};
+ghost use mathlib.Core.Path.{_≡_};
+ghost use Prim.Native.Nat.{ℕ, _≤_};
+ghost use lib.ListN.{length};
+ghost use Rattle.protocol.specs.Bytes.{put};
+ghost use Rattle.boundary.specs.Crossing.{crossed, crossStart};
+ghost use Rattle.boundary.specs.Told.{replyBytes, outSize};
+ghost use Rattle.record.specs.Record.{size};
+ghost use Rattle.session.specs.Phases.{entrySizeOf};
+ghost use Rattle.session.specs.declared.Reply.the-variants.{Told};
+ghost use Rattle.standing.specs.Standing.{numberIn};
+ghost use Rattle.direct.specs.Direct.{tried, nameLengthOf, entryLength, entryTold, entryVersion, entryDone, entryNow};
+use format_number::u32_at;
+use format_record::stat_v1_at;
+use format_record::stat_v2_at;
+use phases::entry_id;
+use phases::entry_size;
+use reply::put_stat;
+use reply::put_stat_v2;
+use session::Version;
+use standing::number;
+use standing::stands;
+use standing::store_plain;
+
+// ---- a listing step whose entry is held whole
+
+// How many bytes the entry at the front of x takes, its name included; 0 where it is not whole.
+fn entry_len(x: &[u8], v: Version) -> usize
+    ensures { λ r. ⌜ r ≡ entryLength v (now (x .entry)) ⌝ }
+{
+    let size = entry_size(v);
+    if x.len() < size {
+        return 0;
+    }
+    if u32_at(x, 0) == entry_id(v) {
+        let name_at = size - 4;
+        let name = u32_at(x, name_at) as usize;
+        let left = x.len() - size;
+        if left < name {
+            return 0;
+        }
+        return size + name;
+    }
+    0
+}
+
+// The entry at the front of x, with its name of len bytes from at on.
+fn tell_entry(out: &mut [u8], v: Version, at: usize, len: usize, x: &[u8])
+    requires { ⌜ (entrySizeOf v ≤ length (now x)) × (len ≡ nameLengthOf v (now x)) ⌝ }
+    ensures { λ _. ⌜ now (out .exit) ≡ put (now (out .entry)) 0 (replyBytes (Told (entryTold v (now (x .entry)) at))) ⌝ }
+{
+    match v {
+        Version::V1 => put_stat(out, 4, at as u64, len as u64, stat_v1_at(x, 0)),
+        Version::V2 => put_stat_v2(out, 5, at as u64, len as u64, stat_v2_at(x, 0)),
+    }
+}
+
+// The entry at head, and head moved past it; nothing where it is not whole.
+fn entry_at(rec: &mut [u8], rx: &[u8], lent: usize, v: Version, out: &mut [u8]) -> bool
+    requires { ⌜ (length (now rec) ≡ size) × (numberIn (now rec) 2 ≤ numberIn (now rec) 3) × (numberIn (now rec) 3 ≤ length (now rx)) ⌝ }
+    ensures { λ r. ⌜ (r, now (rec .exit), now (out .exit)) ≡ entryDone (now (rec .entry)) (now (rx .entry)) lent v (now (out .entry)) ⌝ }
+{
+    let head = number(rec, 2);
+    let tail = number(rec, 3);
+    let x = &rx[head..tail];
+    let n = entry_len(x, v);
+    if n == 0 {
+        return false;
+    }
+    let size = entry_size(v);
+    let at = head + size;
+    let len = n - size;
+    let next = head + n;
+    tell_entry(out, v, at, len, x);
+    store_plain(rec, next, tail, lent, 0, 0);
+    true
+}
+
+fn version(call: u32) -> Version
+    ensures { λ r. ⌜ r ≡ entryVersion call ⌝ }
+{
+    if call == 12 {
+        return Version::V1;
+    }
+    Version::V2
+}
+
+// Calls 12 and 13.
+pub fn entry(rec: &mut [u8], rx: &[u8], msg: &[u8], lent: &[u8], call: u32, out: &mut [u8]) -> bool
+    ensures { λ r. ⌜ ((a b : ℕ) → (r, crossed (now (rec .exit)) (now (rx .entry)) (now (msg .entry)) (now (out .exit)) 0) ≡ tried (entryNow (now (rec .entry)) (now (rx .entry)) (now (msg .entry)) call (now (out .entry))) (crossStart (now (rec .entry)) (now (rx .entry)) (now (msg .entry)) (now (lent .entry)) call a b (now (out .entry))) (crossed (now (rec .entry)) (now (rx .entry)) (now (msg .entry)) (now (out .entry)) 0)) ⌝ }
+{
+    if call < 12 {
+        return false;
+    }
+    if 13 < call {
+        return false;
+    }
+    if out.len() < 112 {
+        return false;
+    }
+    if number(rec, 7) == 0 {
+        if stands(rec, rx.len(), msg.len()) {
+            return entry_at(rec, rx, lent.len(), version(call), out);
+        }
+        return false;
+    }
+    false
+}
