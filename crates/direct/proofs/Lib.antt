@@ -2,5 +2,5 @@
 -- that stands. `Listing`: a listing step that is taken is its crossing.
 pub mod Whole
 mod Entries
-mod Taken
+pub mod Taken
 mod Listing

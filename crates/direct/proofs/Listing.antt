@@ -88,6 +88,7 @@ module _ (rec rx msg lent out : List ℕ) (h : Stands rec (length rx) (length ms
       )
       (false, rec, out))
       ≡ tried q (back rec out (entryCall (st (ses rec rx msg h) rx msg) v (length lent))) (crossed rec rx msg out 0)
+  unfolding tried
   entry-either v true z = ap (λ (c : Crossed). (true, c)) (entry-back v (ltb-true 0 (entryLength v (heldIn rec rx)) z))
   entry-either v false z = refl
 

@@ -1,5 +1,5 @@
 -- The crossing of a record whose session stands, and a plain step put back. Assumes nothing.
-use mathlib.Core.Bool.{Bool, true, false}
+use mathlib.Core.Bool.{Bool, true, false, true≢false}
 use mathlib.Core.List.{List, [], _∷_}
 use mathlib.Core.Path.{_≡_, refl, sym, ap, _∙_}
 use Prim.Native.Nat.{ℕ, _≤_}
@@ -27,7 +27,26 @@ use Rattle.direct.specs.Direct.{heldIn, tried}
 
 -- a step that is not taken
 pub not-tried : (b : Bool) (step same : Crossed) → b ≡ false → (false, same) ≡ tried b step same
+unfolding tried
 not-tried b step same e = rw e
+
+-- what a step that was tried comes to
+module _ (b r : Bool) (x step same : Crossed) (e : (r, x) ≡ tried b step same) where
+  pub was-taken : r ≡ true → x ≡ step
+  unfolding tried
+  was-taken t = go b e
+    where
+      go : (q : Bool) → (r, x) ≡ tried q step same → x ≡ step
+      go true f = ap (λ (p : Bool × Crossed). p .1) f
+      go false f = absurd (true≢false (sym t ∙ ap (λ (p : Bool × Crossed). p .0) f))
+
+  pub was-left : r ≡ false → x ≡ same
+  unfolding tried
+  was-left t = go b e
+    where
+      go : (q : Bool) → (r, x) ≡ tried q step same → x ≡ same
+      go true f = absurd (true≢false (sym (ap (λ (p : Bool × Crossed). p .0) f) ∙ t))
+      go false f = ap (λ (p : Bool × Crossed). p .1) f
 
 module _ (rec rx msg : List ℕ) (h : Stands rec (length rx) (length msg)) where
   -- the session that stands in the record

@@ -23,7 +23,7 @@ use Rattle.session.specs.declared.Version.the-variants.{V1, V2}
 use Rattle.standing.specs.Standing.{numberIn, standing, plainNumbers}
 
 -- taken, with what it comes to; or not taken, and all as it was
-abbrev pub tried : Bool → Crossed → Crossed → Bool × Crossed
+unfoldable pub tried : Bool → Crossed → Crossed → Bool × Crossed
 tried true step same = (true, step)
 tried false step same = (false, same)
 

@@ -4,6 +4,7 @@ ghost use Rattle.boundary.specs.Crossing.{crossed, crossOpen, crossStart, cross
 ghost use Rattle.exports.specs.Crossed.{openCrossed, readAnew};
 use calls::Opened;
 use calls::open;
+use direct::entry;
 use numbered::begin;
 use numbered::fault_of;
 use put_back::give_back;
@@ -20,6 +21,9 @@ use short_read::short_tail;
 
 // The longest reply: a slice shorter than it is turned away.
 const REPLY: usize = 112;
+
+// What a step that goes the short way asks or tells.
+const TOLD: u32 = 0;
 
 // 3, told: that slice, or a record that holds no session.
 const AWAY: u32 = 768;
@@ -42,9 +46,8 @@ pub extern "C" fn yuglasno_open(rec: &mut [u8], banner: &[u8], rx: usize, msg: u
     }
 }
 
-// Starts a call by its number, 1 to 14: a is its mode or its time, b its flags.
-#[no_mangle]
-pub extern "C" fn yuglasno_start(
+// Starts a call the long way: its session is loaded, takes its first step and is stored.
+fn start_anew(
     rec: &mut [u8],
     rx: &mut [u8],
     msg: &mut [u8],
@@ -67,6 +70,26 @@ pub extern "C" fn yuglasno_start(
             give_back(stepped, rec, out)
         }
     }
+}
+
+// Starts a call by its number, 1 to 14: a is its mode or its time, b its flags. What can be taken on the record's numbers goes the short way.
+#[no_mangle]
+pub extern "C" fn yuglasno_start(
+    rec: &mut [u8],
+    rx: &mut [u8],
+    msg: &mut [u8],
+    lent: &[u8],
+    call: u32,
+    a: u32,
+    b: u32,
+    out: &mut [u8],
+) -> u32
+    ensures { λ r. ⌜ crossed (now (rec .exit)) (now (rx .exit)) (now (msg .exit)) (now (out .exit)) r ≡ crossStart (now (rec .entry)) (now (rx .entry)) (now (msg .entry)) (now (lent .entry)) call a b (now (out .entry)) ⌝ }
+{
+    if entry(rec, rx, msg, lent, call, out) {
+        return TOLD;
+    }
+    start_anew(rec, rx, msg, lent, call, a, b, out)
 }
 
 // count bytes were read into the window.

@@ -1,42 +1,35 @@
--- `exports::yuglasno_start` meets its contract. Assumes nothing.
+-- `exports::yuglasno_start` meets its contract: a step that was taken at once is its crossing, and one that was not has altered nothing.
+-- Assumes nothing.
+use mathlib.Core.Path.{ap, _∙_}
 use borrow.Author.Needs.{needs}
 use denote.Ref.{now}
-use Rattle.boundary.specs.Crossing.{requestNumbered, callNumbered, unknownCall, crossStart}
-use Rattle.exports.proofs.Crossings.{cross-short, cross-unknown, cross-back}
+use Rattle.boundary.specs.Crossing.{Crossed, crossStart}
+use Rattle.direct.proofs.Taken.{was-taken, was-left}
 use Rattle.exports.proofs.yuglasno_start.Statement.{statement}
 use Rattle.exports.proofs.yuglasno_start.Tie as tie
 
-short : tie.Need-returns
-unfolding crossStart
-short c = let a = c .before .before .before .before .before .before .args in cross-short (now (a .rec)) (now (a .rx)) (now (a .msg)) (now (a .out)) _ (c .if1 .taken)
+entry : tie.Need-returns
+entry c = let a = c .before .before .before .before .before .before .before .before .before .before .before .before .before .before .before .args in was-taken _ _ _ _ _ (c .before .before .before .before .before .entry .ensures (a .a) (a .b)) (c .if1 .taken)
 
-unknown : tie.Need-returns-2
-unfolding crossStart
-unknown c =
-    let a = c .before .before .before .before .before .before .before .before .before .before .args in
-    cross-unknown (now (a .rec)) (now (a .rx)) (now (a .msg)) (now (a .out)) _ (c .before .before .before .before .if1 .left) _ (c .enum-told .given .1) (c .before .before .load .ensures)
-
-stepped : tie.Need-returns-3
-unfolding crossStart
-stepped c =
-    let a = c .before .before .before .before .before .before .before .before .before .before .before .before .before .before .before .before .before .before .before .before .before .before .before .before .before .args in
-    cross-back (now (a .rec)) (now (a .rx)) (now (a .msg)) (now (a .out)) (λ s. callNumbered (a .call) (a .a) (a .b) s (now (a .lent)) (requestNumbered (a .call) (a .a) (a .b)) (unknownCall s)) (c .before .before .before .before .before .before .before .before .before .before .before .before .before .before .before .before .before .before .before .if1 .left)
-    _ _ (c .before .before .before .before .before .before .before .before .before .before .before .before .before .before .before .loaded .given .1) (c .before .before .before .before .before .before .before .before .before .before .before .before .before .before .before .before .before .load .ensures) _ (c .before .before .before .before .before .before .before .before .before .before .before .begin .ensures) _ (c .before .before .before .before .give-back .ensures _ _)
+anew : tie.Need-returns-2
+anew c =
+    let a = c .before .before .before .before .before .before .before .before .before .before .before .before .before .before .before .before .before .before .before .before .before .before .before .before .before .before .before .before .args in
+    c .before .before .before .before .before .before .before .before .start-anew .ensures
+    ∙ ap (λ (x : Crossed). crossStart (x .rec) (x .rx) (x .msg) (now (a .lent)) (a .call) (a .a) (a .b) (x .out)) (was-left _ _ _ _ _ (c .before .before .before .before .before .before .before .before .before .before .before .before .before .before .before .before .before .before .entry .ensures (a .a) (a .b)) (c .before .before .before .before .before .before .before .before .before .before .before .before .before .if1 .left))
 
 pub yuglasno-start-spec : {M : Type 1} → statement M
 yuglasno-start-spec =
     tie.close
     (tie.spec
-    short
     (λ c κs. search needs)
     (λ c. search needs)
     (λ c. search needs)
+    (λ c. search needs)
+    (λ c. search needs)
+    entry
     (λ c κs. search needs)
-    (λ c κs. search needs)
-    (λ c. search needs)
-    unknown
     (λ c. search needs)
     (λ c. search needs)
     (λ c. search needs)
     (λ c. search needs)
-    stepped)
+    anew)
