@@ -4,10 +4,9 @@ use mathlib.Core.List.{List, [], _∷_}
 use mathlib.Core.Path.{_≡_, refl, sym, ap, _∙_}
 use Prim.Native.Nat.{ℕ, _+_, _-_, _≤_, _<_}
 use native.Mathlib.Omega.{arith}
-use borrow.Author.Tests.{le-leb, lt-leb, lt-ltb, le-ltb, eq-eqb}
-use lib.Dec.{eqb}
+use borrow.Author.Tests.{le-leb, lt-leb}
 use lib.ListN.{length, take, drop}
-use Rattle.protocol.specs.Bytes.{pick, same, whole, numberAt, put}
+use Rattle.protocol.specs.Bytes.{same, whole, numberAt, put}
 use Rattle.protocol.specs.Ids.{letters}
 use Rattle.protocol.specs.Records.{Stat, Stat2, u32At, idAt, statAt, stat2At, dentAt, dent2At}
 use Rattle.protocol.proofs.Bytes.{whole-in}
@@ -16,15 +15,15 @@ use Rattle.format_record.specs.Told.{toldStat, toldStat2, statOf, stat2Of, zero
 use Rattle.format_record.specs.declared.StatV1.{StatV1}
 use Rattle.format_record.specs.declared.StatV2.{StatV2}
 use Rattle.record.specs.Fields.{unsigned}
-use Rattle.record.specs.Record.{size, words}
-use Rattle.recv_buf.specs.RecvBuf.{cursor}
+use Rattle.record.specs.Record.{words}
+use Rattle.recv_buf.specs.RecvBuf.{cursor, heldBytes}
 use Rattle.recv_buf.proofs.Laws.{Sound, slice-part, held-in, held-length}
 use Rattle.session.specs.Phases.{entrySizeOf, entryIdOf}
 use Rattle.session.specs.declared.Reply.the-variants.{Told}
 use Rattle.session.specs.declared.Version.{Version}
 use Rattle.session.specs.declared.Version.the-variants.{V1, V2}
-use Rattle.standing.specs.Standing.{numberIn, plainNumbers}
-use Rattle.direct.specs.Direct.{heldIn, nameLengthOf, entryLength, entryTold, entryDone}
+use Rattle.standing.specs.Standing.{numberIn}
+use Rattle.direct.specs.Direct.{heldIn, nameLengthOf, entryLength, entryTold}
 use Rattle.direct.proofs.Whole.{whole-of}
 
 -- a number that the code reads
@@ -86,29 +85,18 @@ module _ (out x : List ℕ) (at len : ℕ) {l : List ℕ} where
 
 -- ---- the held bytes, as the code parts them off
 
-module _ (rec rx : List ℕ) (o : numberIn rec 2 ≤ numberIn rec 3) (i : numberIn rec 3 ≤ length rx) where
-  sound : Sound rx (cursor (numberIn rec 2) (numberIn rec 3))
+module _ (rx : List ℕ) (a b : ℕ) (o : a ≤ b) (i : b ≤ length rx) where
+  sound : Sound rx (cursor a b)
   sound = record { ordered = o; within = i }
 
-  pub held-part : (h t : ℕ) → h ≡ numberIn rec 2 → t ≡ numberIn rec 3 → take (t - h) (drop h rx) ≡ heldIn rec rx
-  held-part h t p q =
-      rw (p, q) (slice-part (numberIn rec 2) (numberIn rec 3) rx o i ∙ sym (held-in rx (cursor (numberIn rec 2) (numberIn rec 3)) sound))
+  pub held-part : (h t : ℕ) → h ≡ a → t ≡ b → take (t - h) (drop h rx) ≡ heldBytes rx (cursor a b)
+  held-part h t p q = rw (p, q) (slice-part a b rx o i ∙ sym (held-in rx (cursor a b) sound))
 
-  pub entry-within : (v : Version) → 0 < entryLength v (heldIn rec rx) → numberIn rec 2 + entryLength v (heldIn rec rx) ≤ numberIn rec 3
-  entry-within v h =
-      let w = whole-of v (heldIn rec rx) h in
-      omega (arith, w .all, w .name, held-length rx (cursor (numberIn rec 2) (numberIn rec 3)) sound)
+  pub held-count : length (heldBytes rx (cursor a b)) ≡ b - a
+  held-count = held-length rx (cursor a b) sound
 
--- ---- what the code leaves of the record and of the reply
-
-module _ (rec rx : List ℕ) (lent : ℕ) (v : Version) (out : List ℕ) where
-  pub not-done : 0 ≡ entryLength v (heldIn rec rx) → (false, rec, out) ≡ entryDone rec rx lent v out
-  not-done e = rw (le-ltb 0 (entryLength v (heldIn rec rx)) (omega arith))
-
-  pub is-done : (h t n k : ℕ) (x new told : List ℕ) → length rec ≡ size → h ≡ numberIn rec 2 → t ≡ numberIn rec 3 → k ≡ entrySizeOf v
-      → x ≡ heldIn rec rx → n ≡ entryLength v (heldIn rec rx) → (n ≡ 0 → ⊥)
-      → new ≡ pick (eqb (length rec) size) (words (plainNumbers rec (h + n) t lent 0 0)) rec
-      → told ≡ put out 0 (replyBytes (Told (entryTold v x (h + k)))) → (true, new, told) ≡ entryDone rec rx lent v out
-  is-done h t n k x new told l eh et ek ex en z p q =
-      let some : 0 < entryLength v (heldIn rec rx) = omega arith in
-      rw (lt-ltb 0 (entryLength v (heldIn rec rx)) some, p, q, eq-eqb (length rec) size l, eh, et, ek, ex, en)
+pub entry-within : (rec rx : List ℕ) (v : Version) → numberIn rec 2 ≤ numberIn rec 3 → numberIn rec 3 ≤ length rx → 0 < entryLength v (heldIn rec rx)
+    → numberIn rec 2 + entryLength v (heldIn rec rx) ≤ numberIn rec 3
+entry-within rec rx v o i h =
+    let w = whole-of v (heldIn rec rx) h in
+    omega (arith, w .all, w .name, held-count rx (numberIn rec 2) (numberIn rec 3) o i)

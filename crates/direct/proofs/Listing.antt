@@ -8,25 +8,22 @@ use native.Mathlib.Omega.{arith}
 use borrow.Author.Tests.{le-leb, eq-eqb, ltb-true}
 use lib.Dec.{ltb}
 use lib.ListN.{length}
-use Rattle.protocol.specs.Bytes.{pick, put}
-use Rattle.boundary.specs.Crossing.{Crossed, crossed, isRefusal, back, requestNumbered, callNumbered, unknownCall, crossStart}
-use Rattle.boundary.specs.Told.{replyNumber, replyBytes, outSize}
-use Rattle.record.specs.Fields.{sessionOf}
-use Rattle.record.specs.Record.{words, wordOf, stored}
+use Rattle.boundary.specs.Crossing.{crossed, isRefusal, back, requestNumbered, callNumbered, unknownCall, crossStart}
+use Rattle.boundary.specs.Told.{replyNumber, outSize}
 use Rattle.recv_buf.specs.RecvBuf.{cursor}
 use Rattle.session.specs.Calls.{entryCall}
 use Rattle.session.specs.Phases.{entrySizeOf}
-use Rattle.session.specs.State.{St, st, Out, at, begun}
+use Rattle.session.specs.State as S
+use Rattle.session.specs.State.{St, st, stepped, at, begun}
 use Rattle.session.specs.Steps.{told}
 use Rattle.session.specs.declared.Pending.the-variants.{Idle}
 use Rattle.session.specs.declared.Reply.the-variants.{Told}
-use Rattle.session.specs.declared.Session.{Session}
 use Rattle.session.specs.declared.Version.{Version}
 use Rattle.session.specs.declared.Version.the-variants.{V1, V2}
-use Rattle.standing.specs.Standing.{numberIn, Stands, plainNumbers}
-use Rattle.standing.proofs.Laws.{stands-in, stored-plain}
+use Rattle.standing.specs.Standing.{numberIn, Stands}
+use Rattle.standing.proofs.Laws.{stands-in}
 use Rattle.direct.specs.Direct.{tried, heldIn, entryLength, entryTold, entryVersion, entryDone, entryNow}
-use Rattle.direct.proofs.Taken.{ses, good, held-same, head-same, tail-same, no-refusal, crossing-at, put-back}
+use Rattle.direct.proofs.Taken.{ses, good, held-same, head-same, tail-same, no-refusal, done-tried}
 use Rattle.direct.proofs.Whole.{dropped, whole-entry}
 
 -- calls 12 and 13 are listing steps
@@ -52,59 +49,39 @@ number-told V1 x i = refl
 number-told V2 x i = refl
 
 module _ (rec rx msg lent out : List ℕ) (h : Stands rec (length rx) (length msg)) (o : outSize ≤ length out) (idle : numberIn rec 7 ≡ 0) where
-  abbrev shown : Bool × List ℕ × List ℕ → Bool × Crossed
-  shown t = (t .0, crossed (t .1) rx msg (t .2) 0)
+  -- the step, by the session's own definitions
+  entry-stepped : (v : Version) → 0 < entryLength v (heldIn rec rx)
+      → told (dropped (st (begun (ses rec rx msg h) (length lent)) rx msg) (entryLength v (heldIn rec rx))) (entryTold v (heldIn rec rx) (numberIn rec 2 + entrySizeOf v))
+      ≡ entryCall (st (ses rec rx msg h) rx msg) v (length lent)
+  unfolding entryCall
+  entry-stepped v some =
+      let e = held-same rec rx msg h in
+      rw (no-refusal rec rx msg h idle, e, head-same rec rx msg h)
+      (sym (whole-entry (st (begun (ses rec rx msg h) (length lent)) rx msg) (good rec rx msg h (length lent)) v false (rw e at some)))
 
-  module _ (v : Version) (some : 0 < entryLength v (heldIn rec rx)) where
-    abbrev n : ℕ
-    n = entryLength v (heldIn rec rx)
-
-    -- the step, by the session's own definitions
-    stepped-entry : told (dropped (st (begun (ses rec rx msg h) (length lent)) rx msg) n) (entryTold v (heldIn rec rx) (numberIn rec 2 + entrySizeOf v))
-        ≡ entryCall (st (ses rec rx msg h) rx msg) v (length lent)
-    unfolding entryCall
-    stepped-entry =
-        let e = held-same rec rx msg h in
-        rw (no-refusal rec rx msg h idle, e, head-same rec rx msg h)
-        (sym (whole-entry (st (begun (ses rec rx msg h) (length lent)) rx msg) (good rec rx msg h (length lent)) v false (rw e at some)))
-
-    entry-back : crossed (words (plainNumbers rec (numberIn rec 2 + n) (numberIn rec 3) (length lent) 0 0)) rx msg
-        (put out 0 (replyBytes (Told (entryTold v (heldIn rec rx) (numberIn rec 2 + entrySizeOf v))))) 0
-        ≡ back rec out (entryCall (st (ses rec rx msg h) rx msg) v (length lent))
-    entry-back =
-        let x = heldIn rec rx in
-        let i = numberIn rec 2 + entrySizeOf v in
-        let p = stored-plain rec (length rx) (length msg) h (numberIn rec 2 + n) (numberIn rec 3) (length lent) 0 0 Idle refl in
-        put-back rec rx msg out _ _ (Told (entryTold v x i)) 0 (no-refusal-told v x i) (number-told v x i)
-        (sym p ∙ rw (head-same rec rx msg h, tail-same rec rx msg h))
-        ∙ ap (back rec out) stepped-entry
-
-  -- taken or not
-  entry-either : (v : Version) (q : Bool) → ltb 0 (entryLength v (heldIn rec rx)) ≡ q
-      → shown (pick q (
-        true,
-        words (plainNumbers rec (numberIn rec 2 + entryLength v (heldIn rec rx)) (numberIn rec 3) (length lent) 0 0),
-        put out 0 (replyBytes (Told (entryTold v (heldIn rec rx) (numberIn rec 2 + entrySizeOf v)))),
-      )
-      (false, rec, out))
-      ≡ tried q (back rec out (entryCall (st (ses rec rx msg h) rx msg) v (length lent))) (crossed rec rx msg out 0)
-  unfolding tried
-  entry-either v true z = ap (λ (c : Crossed). (true, c)) (entry-back v (ltb-true 0 (entryLength v (heldIn rec rx)) z))
-  entry-either v false z = refl
-
-  pub entry-tried : (call a b : ℕ) → 12 ≤ call → call ≤ 13 → (r : Bool) (new told : List ℕ)
-      → (r, new, told) ≡ entryDone rec rx (length lent) (entryVersion call) out
-      → (r, crossed new rx msg told 0) ≡ tried (entryNow rec rx msg call out) (crossStart rec rx msg lent call a b out) (crossed rec rx msg out 0)
+  pub entry-tried : (call a b : ℕ) → 12 ≤ call → call ≤ 13 → (t : Bool) (new told′ : List ℕ)
+      → (t, new, told′) ≡ entryDone rec rx (length lent) (entryVersion call) out
+      → (t, crossed new rx msg told′ 0) ≡ tried (entryNow rec rx msg call out) (crossStart rec rx msg lent call a b out) (crossed rec rx msg out 0)
   unfolding crossStart
-  entry-tried call a b l u r new told e =
-      ap shown e
-      ∙ rw (
+  entry-tried call a b l u t new told′ e =
+      let v = entryVersion call in
+      let x = heldIn rec rx in
+      let i = numberIn rec 2 + entrySizeOf v in
+      done-tried rec rx msg out h o (λ s. back rec out (callNumbered call a b s lent (requestNumbered call a b) (unknownCall s)))
+      (numberIn rec 2 + entryLength v x) (numberIn rec 3) (length lent) 0 0 0 Idle (Told (entryTold v x i)) refl (no-refusal-told v x i) (number-told v x i)
+      (ltb 0 (entryLength v x)) (entryNow rec rx msg call out) t new told′
+      (rw (
         le-leb 12 call l,
         le-leb call 13 u,
         le-leb outSize (length out) o,
         eq-eqb (numberIn rec 7) 0 idle,
         stands-in rec (length rx) (length msg) h,
-        ← crossing-at rec rx msg h out o (λ s. back rec out (callNumbered call a b s lent (requestNumbered call a b) (unknownCall s))),
-        ← called call a b (st (ses rec rx msg h) rx msg) lent l u,
-      )
-      (entry-either (entryVersion call) (ltb 0 (entryLength (entryVersion call) (heldIn rec rx))) refl)
+      ))
+      (λ z. ap (back rec out) (place v ∙ entry-stepped v (ltb-true 0 (entryLength v x) z) ∙ called call a b (st (ses rec rx msg h) rx msg) lent l u))
+      e
+    where
+      place : (v : Version)
+          → S.out (stepped (at (begun (ses rec rx msg h) (length lent)) (cursor (numberIn rec 2 + entryLength v (heldIn rec rx)) (numberIn rec 3)) Idle)
+          (Told (entryTold v (heldIn rec rx) (numberIn rec 2 + entrySizeOf v)))) rx msg
+          ≡ told (dropped (st (begun (ses rec rx msg h) (length lent)) rx msg) (entryLength v (heldIn rec rx))) (entryTold v (heldIn rec rx) (numberIn rec 2 + entrySizeOf v))
+      place v = rw (head-same rec rx msg h, tail-same rec rx msg h)

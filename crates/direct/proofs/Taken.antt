@@ -4,26 +4,28 @@ use mathlib.Core.List.{List, [], _∷_}
 use mathlib.Core.Path.{_≡_, refl, sym, ap, _∙_}
 use Prim.Native.Nat.{ℕ, _≤_}
 use native.Mathlib.Omega.{arith}
-use borrow.Author.Tests.{le-ltb, ne-eqb}
+use borrow.Author.Tests.{le-ltb, eq-eqb, ne-eqb}
+use lib.Dec.{eqb}
 use lib.ListN.{length, getD}
-use Rattle.protocol.specs.Bytes.{put}
+use Rattle.protocol.specs.Bytes.{pick, put}
 use Rattle.boundary.specs.Crossing.{Crossed, crossed, isRefusal, back, crossing}
 use Rattle.boundary.specs.Told.{replyNumber, replyBytes, outSize}
-use Rattle.record.specs.Fields.{pendings, sessionOf}
-use Rattle.record.specs.Record.{wordOf, stored}
+use Rattle.record.specs.Fields.{registers, stepNumbers, pendings, sessionOf}
+use Rattle.record.specs.Record.{size, words, wordOf, stored}
 use Rattle.record_load.proofs.Held.{held}
 use Rattle.recv_buf.specs.RecvBuf.{cursor, heldBytes}
 use Rattle.session.proofs.Misfit.{fits-misfit}
 use Rattle.session.specs.Calls.{callRefusal, isIdle, refusalOf}
+use Rattle.session.specs.Reports.{reportRefusal, refusalAt}
 use Rattle.session.specs.State as S
-use Rattle.session.specs.State.{St, st, stepped, begun, Good}
+use Rattle.session.specs.State.{St, st, stepped, at, begun, Good}
 use Rattle.session.specs.declared.Pending.{Pending}
 use Rattle.session.specs.declared.Pending.the-variants.{Idle}
 use Rattle.session.specs.declared.Reply.{Reply}
 use Rattle.session.specs.declared.Session.{Session}
-use Rattle.standing.specs.Standing.{numberIn, Stands}
-use Rattle.standing.proofs.Laws.{number-in, held-of, fits-of}
-use Rattle.direct.specs.Direct.{heldIn, tried}
+use Rattle.standing.specs.Standing.{numberIn, Stands, plainNumbers}
+use Rattle.standing.proofs.Laws.{number-in, held-of, fits-of, stored-plain}
+use Rattle.direct.specs.Direct.{heldIn, tried, done}
 
 -- a step that is not taken
 pub not-tried : (b : Bool) (step same : Crossed) → b ≡ false → (false, same) ≡ tried b step same
@@ -66,6 +68,10 @@ module _ (rec rx msg : List ℕ) (h : Stands rec (length rx) (length msg)) where
   unfolding sessionOf
   head-same = number-in rec 2 (h .sized)
 
+  pub lent-same : numberIn rec 4 ≡ ses .lent
+  unfolding sessionOf
+  lent-same = number-in rec 4 (h .sized)
+
   pub tail-same : numberIn rec 3 ≡ ses .buf .tail
   unfolding sessionOf
   tail-same = number-in rec 3 (h .sized)
@@ -84,11 +90,59 @@ module _ (rec rx msg : List ℕ) (h : Stands rec (length rx) (length msg)) where
   unfolding callRefusal
   no-refusal e = rw (fits-misfit ses (length rx) (length msg) (fits-of rec (length rx) (length msg) h), not-ended, pending-at 0 e)
 
+  -- a report is let in where it is awaited
+  pub no-report-refusal : (n : ℕ) → n ≡ numberIn rec 4 → (p : Pending) → ses .pending ≡ p → isIdle p ≡ false → refusalAt (st ses rx msg) n ≡ 0
+  unfolding reportRefusal
+  no-report-refusal n e p f i =
+      rw (
+        fits-misfit ses (length rx) (length msg) (fits-of rec (length rx) (length msg) h),
+        f,
+        i,
+        eq-eqb n (ses .lent) (e ∙ lent-same),
+        not-ended,
+      )
+
   module _ (out : List ℕ) (o : outSize ≤ length out) where
     pub crossing-at : (k : St → Crossed) → k (st ses rx msg) ≡ crossing rec rx msg out k
     crossing-at k = rw (le-ltb (length out) outSize o, ← held rec (held-of rec (length rx) (length msg) h))
 
 -- what is put back of a step that is no refusal
-pub put-back : (rec rx msg out new : List ℕ) (s : Session) (r : Reply) (n : ℕ) → isRefusal r ≡ false → n ≡ replyNumber r → new ≡ stored s
+put-back : (rec rx msg out new : List ℕ) (s : Session) (r : Reply) (n : ℕ) → isRefusal r ≡ false → n ≡ replyNumber r → new ≡ stored s
     → crossed new rx msg (put out 0 (replyBytes r)) n ≡ back rec out (S.out (stepped s r) rx msg)
 put-back rec rx msg out new s r n e f g = rw (e, f, g)
+
+-- ---- a plain step, as the code leaves it
+
+module _ (b : Bool) (rec : List ℕ) (head tail lent state until : ℕ) (r : Reply) (out : List ℕ) where
+  pub done-out : b ≡ false → (false, rec, out) ≡ done b rec head tail lent state until r out
+  unfolding done
+  done-out e = rw e
+
+  pub done-in : (new told : List ℕ) (h t l : ℕ) → b ≡ true → length rec ≡ size → h ≡ head → t ≡ tail → l ≡ lent
+      → new ≡ pick (eqb (length rec) size) (words (plainNumbers rec h t l state until)) rec → told ≡ put out 0 (replyBytes r)
+      → (true, new, told) ≡ done b rec head tail lent state until r out
+  unfolding done
+  done-in new told h t l e z eh et el p q = rw (e, p, q, eq-eqb (length rec) size z, eh, et, el)
+
+-- ... and the crossing that it is
+module _ (rec rx msg out : List ℕ) (h : Stands rec (length rx) (length msg)) (o : outSize ≤ length out) (k : St → Crossed)
+    (head tail lent state until n : ℕ) (p : Pending) (r : Reply) (plain : stepNumbers p ≡ state ∷ 0 ∷ until ∷ 0 ∷ 0 ∷ registers [])
+    (fine : isRefusal r ≡ false) (number : n ≡ replyNumber r) where
+  pub done-tried : (b now t : Bool) (new told : List ℕ) → now ≡ b
+      → (b ≡ true → back rec out (S.out (stepped (at (begun (ses rec rx msg h) lent) (cursor head tail) p) r) rx msg) ≡ k (st (ses rec rx msg h) rx msg))
+      → (t, new, told) ≡ done b rec head tail lent state until r out
+      → (t, crossed new rx msg told n) ≡ tried now (crossing rec rx msg out k) (crossed rec rx msg out n)
+  unfolding tried done
+  done-tried b now t new told e f d = ap (λ (q : Bool × List ℕ × List ℕ). (q .0, crossed (q .1) rx msg (q .2) n)) d ∙ rw e (go b f)
+    where
+      go : (q : Bool)
+          → (q ≡ true → back rec out (S.out (stepped (at (begun (ses rec rx msg h) lent) (cursor head tail) p) r) rx msg) ≡ k (st (ses rec rx msg h) rx msg))
+          → _≡_ {A = Bool × Crossed} (done q rec head tail lent state until r out .0, crossed (done q rec head tail lent state until r out .1) rx msg (done q rec head tail lent state until r out .2) n)
+          (tried q (crossing rec rx msg out k) (crossed rec rx msg out n))
+      go true g =
+          ap (λ (c : Crossed). (true, c))
+          (put-back rec rx msg out (words (plainNumbers rec head tail lent state until)) _ r n fine number
+          (sym (stored-plain rec (length rx) (length msg) h head tail lent state until p plain))
+          ∙ g refl
+          ∙ crossing-at rec rx msg h out o k)
+      go false g = refl

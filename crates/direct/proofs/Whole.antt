@@ -6,30 +6,30 @@ use Prim.Native.Nat.{ℕ, zero, suc, _+_, _-_, _≤_, _<_}
 use native.Mathlib.Nat.{add-zero, add-assoc, lt-irrefl}
 use native.Mathlib.Omega.{arith}
 use borrow.Author.Tests.{leb-true}
-use lib.Dec.{leb, ltb}
+use lib.Dec.{eqb, leb}
 use lib.ListN.{length, take, drop}
 use Rattle.protocol.specs.Bytes.{pick, same}
 use Rattle.protocol.specs.Ids.{letters}
-use Rattle.protocol.specs.Records.{Dent, Dent2, idAt, dentAt, dent2At}
+use Rattle.protocol.specs.Records.{Stat as PanelStat, Stat2, Dent, Dent2, idAt, statAt, stat2At, dentAt, dent2At}
 use Rattle.protocol.proofs.Bytes.{same-eq}
 use Rattle.format_record.specs.Told.{statOf, stat2Of, dentOf, dent2Of}
 use Rattle.pump.proofs.Hops.{hopped-turns}
 use Rattle.recv_buf.specs.RecvBuf.{cursor, heldCount, heldBytes}
 use Rattle.recv_buf.proofs.Laws.{held-length}
-use Rattle.session.proofs.Buf.{id-in, dent-in, dent2-in, sound-of, view}
-use Rattle.session.specs.Phases.{wants, entrySizeOf, entryIdOf, stopping, going, headed, entryTurn, turnAt}
+use Rattle.session.proofs.Buf.{id-in, stat-in, stat2-in, dent-in, dent2-in, sound-of, view}
+use Rattle.session.specs.Phases.{wants, statSizeOf, entrySizeOf, statIdOf, entryIdOf, stopping, going, headed, entryTurn, turnAt}
 use Rattle.session.specs.State.{St, st, at, Good}
 use Rattle.session.specs.Steps.{kept, turnOf, pumped, readOn, told}
 use Rattle.session.specs.declared.Answer.{Answer}
 use Rattle.session.specs.declared.Answer.the-variants as A
 use Rattle.session.specs.declared.Pending.the-variants.{Idle}
 use Rattle.session.specs.declared.Phase.{Phase}
-use Rattle.session.specs.declared.Phase.the-variants.{Header, Entry, NameV1, NameV2}
+use Rattle.session.specs.declared.Phase.the-variants.{Header, Stat, Entry, NameV1, NameV2}
 use Rattle.session.specs.declared.Turn.{Turn}
 use Rattle.session.specs.declared.Version.{Version}
 use Rattle.session.specs.declared.Version.the-variants.{V1, V2}
 use Rattle.session.specs.declared.Want.the-variants as W
-use Rattle.direct.specs.Direct.{nameLengthOf, entryLength, entryTold}
+use Rattle.direct.specs.Direct.{nameLengthOf, entryLength, entryTold, errorless, isStat, statTold}
 
 -- ---- a turn whose bytes are held
 
@@ -102,6 +102,39 @@ whole-of v x h = go (leb (entrySizeOf v) (length x)) (same (idAt x) (letters (en
     go true false c p q r = absurd (lt-irrefl 0 (rw (p, q) at h))
     go false b c p q r = absurd (lt-irrefl 0 (rw p at h))
 
+-- ---- a stat's reply
+
+stat-header : (v : Version) (c : ℕ) (rx : List ℕ) (i : ℕ) → idAt (drop i rx) ≡ letters (statIdOf v)
+    → turnAt c (Header (W.Stat v)) rx i ≡ going 0 (Stat v)
+unfolding turnAt headed
+stat-header V1 c rx i e = rw e
+stat-header V2 c rx i e = rw e
+
+stat-turn : (v : Version) (c : ℕ) (rx : List ℕ) (i : ℕ) → errorless v (drop i rx) ≡ true
+    → turnAt c (Stat v) rx i ≡ stopping (statSizeOf v) (statTold v (drop i rx))
+unfolding turnAt
+stat-turn V1 c rx i e = refl
+stat-turn V2 c rx i e = rw e
+
+pub stat-size : (v : Version) → 8 ≤ statSizeOf v
+stat-size V1 = omega arith
+stat-size V2 = omega arith
+
+-- what it is
+pub record Replied (v : Version) (x : List ℕ) : Type 0 where
+  pub sized : statSizeOf v ≤ length x
+  pub id : idAt x ≡ letters (statIdOf v)
+  pub fine : errorless v x ≡ true
+
+pub replied-of : (v : Version) (x : List ℕ) → isStat v x ≡ true → Replied v x
+unfolding isStat
+replied-of v x e =
+    let (i, f) = and-eq-true-iff (leb (statSizeOf v) (length x) && same (idAt x) (letters (statIdOf v))) (errorless v x) .0 e in
+    let (l, d) = and-eq-true-iff (leb (statSizeOf v) (length x)) (same (idAt x) (letters (statIdOf v))) .0 i in
+    record { sized = leb-true _ _ l; id = same-eq _ _ d; fine = f }
+
+-- ---- both, in a session
+
 module _ (s : St) (g : Good s) where
   abbrev x : List ℕ
   x = heldBytes (s .rx) (s .ses .buf)
@@ -140,3 +173,27 @@ module _ (s : St) (g : Good s) where
       ∙ turn-stops u (named v y) lost (rw (name-wants v c y) (omega (arith, w .name, g))) (rw (name-wants v c y) (omega (arith, w .name))) 1 (nameLengthOf v y) (entryTold v y (i + entrySizeOf v))
       (rw (add-zero i) (name-turn v c y (s .rx) (i + entrySizeOf v)))
       ∙ rw (q, told-seen v (i + entrySizeOf v) (omega (arith, w .sized)))
+
+  stat-seen : (v : Version) → statSizeOf v ≤ heldCount (s .ses .buf) → statTold v x ≡ statTold v y
+  stat-seen V1 h = ap (λ (d : PanelStat). A.StatV1 (statOf d)) (sees statAt 16 stat-in h)
+  stat-seen V2 h = ap (λ (d : Stat2). A.StatV2 (stat2Of d)) (sees stat2At 72 stat2-in h)
+
+  fine-seen : (v : Version) → statSizeOf v ≤ heldCount (s .ses .buf) → errorless v x ≡ errorless v y
+  fine-seen V1 h = refl
+  fine-seen V2 h = ap (λ (d : Stat2). eqb (d .error) 0) (sees stat2At 72 stat2-in h)
+
+  pub whole-stat : (v : Version) (lost : Bool) → isStat v x ≡ true
+      → readOn s (Header (W.Stat v)) lost ≡ told (dropped s (statSizeOf v)) (statTold v x)
+  unfolding wants
+  whole-stat v lost h =
+      let w = replied-of v x h in
+      let c = s .ses .capacity in
+      let i = s .ses .buf .head in
+      let l = held-length (s .rx) (s .ses .buf) (sound-of s g) in
+      let z = stat-size v in
+      let there : statSizeOf v ≤ heldCount (s .ses .buf) = omega (arith, w .sized) in
+      let e = sym (sees idAt 8 id-in (omega arith)) ∙ w .id in
+      let f = sym (fine-seen v there) ∙ w .fine in
+      turn-goes s (Header (W.Stat v)) lost (g .least) (omega arith) 3 0 (Stat v) (stat-header v c (s .rx) i e)
+      ∙ turn-stops (dropped s 0) (Stat v) lost (omega (arith, g)) (omega arith) 2 (statSizeOf v) (statTold v y) (rw (add-zero i) (stat-turn v c (s .rx) i f))
+      ∙ rw (add-zero i, stat-seen v there)

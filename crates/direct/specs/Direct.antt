@@ -1,22 +1,23 @@
 -- Steps that are taken at once, on the record's numbers, where a session would be loaded, stepped and stored again: when each is taken,
 -- and that it then comes to what the crossing comes to.
 -- Assumes nothing.
-use Prim.Native.Nat.{ℕ, _+_}
+use Prim.Native.Nat.{ℕ, _+_, _-_}
 use mathlib.Core.Bool.{Bool, true, false, _&&_}
 use mathlib.Core.List.{List}
 use lib.Dec.{eqb, ltb, leb}
 use lib.ListN.{length}
 use Rattle.protocol.specs.Bytes.{pick, same, put}
 use Rattle.protocol.specs.Ids.{letters}
-use Rattle.protocol.specs.Records.{idAt, dentAt, dent2At}
+use Rattle.protocol.specs.Records.{idAt, statAt, stat2At, dentAt, dent2At}
 use Rattle.boundary.specs.Crossing.{Crossed, crossed}
 use Rattle.boundary.specs.Told.{replyBytes, outSize}
 use Rattle.format_record.specs.Told.{statOf, stat2Of}
 use Rattle.record.specs.Record.{words, loaded}
 use Rattle.recv_buf.specs.RecvBuf.{cursor, heldBytes}
-use Rattle.session.specs.Phases.{entrySizeOf, entryIdOf}
+use Rattle.session.specs.Phases.{statSizeOf, entrySizeOf, statIdOf, entryIdOf}
 use Rattle.session.specs.declared.Answer.{Answer}
 use Rattle.session.specs.declared.Answer.the-variants as A
+use Rattle.session.specs.declared.Reply.{Reply}
 use Rattle.session.specs.declared.Reply.the-variants.{Told}
 use Rattle.session.specs.declared.Version.{Version}
 use Rattle.session.specs.declared.Version.the-variants.{V1, V2}
@@ -26,6 +27,11 @@ use Rattle.standing.specs.Standing.{numberIn, standing, plainNumbers}
 unfoldable pub tried : Bool → Crossed → Crossed → Bool × Crossed
 tried true step same = (true, step)
 tried false step same = (false, same)
+
+-- the record and the slice of the reply: with the session at another place and a plain step, and the reply; or as they were
+unfoldable pub done : Bool → (rec : List ℕ) → (head tail lent state until : ℕ) → Reply → (out : List ℕ) → Bool × List ℕ × List ℕ
+done true rec head tail lent state until r out = (true, words (plainNumbers rec head tail lent state until), put out 0 (replyBytes r))
+done false rec head tail lent state until r out = (false, rec, out)
 
 -- the bytes that a record's session holds
 abbrev pub heldIn : (rec rx : List ℕ) → List ℕ
@@ -52,12 +58,8 @@ entryTold V2 x at = A.EntryV2 (stat2Of (dent2At x .stat)) at (dent2At x .namelen
 -- the record and the reply, where the entry is whole
 abbrev pub entryDone : (rec rx : List ℕ) → (lent : ℕ) → Version → (out : List ℕ) → Bool × List ℕ × List ℕ
 entryDone rec rx lent v out =
-    pick (ltb 0 (entryLength v (heldIn rec rx))) (
-      true,
-      words (plainNumbers rec (numberIn rec 2 + entryLength v (heldIn rec rx)) (numberIn rec 3) lent 0 0),
-      put out 0 (replyBytes (Told (entryTold v (heldIn rec rx) (numberIn rec 2 + entrySizeOf v)))),
-    )
-    (false, rec, out)
+    done (ltb 0 (entryLength v (heldIn rec rx))) rec (numberIn rec 2 + entryLength v (heldIn rec rx)) (numberIn rec 3) lent 0 0
+    (Told (entryTold v (heldIn rec rx) (numberIn rec 2 + entrySizeOf v))) out
 
 -- calls 12 and 13
 abbrev pub entryVersion : ℕ → Version
@@ -67,3 +69,42 @@ abbrev pub entryNow : (rec rx msg : List ℕ) → (call : ℕ) → (out : List �
 entryNow rec rx msg call out =
     leb 12 call && leb call 13 && leb outSize (length out) && eqb (numberIn rec 7) 0 && standing (loaded rec) (length rx) (length msg)
     && ltb 0 (entryLength (entryVersion call) (heldIn rec rx))
+
+-- ---- a read that completes a stat's reply
+
+-- a stat of version 2 can carry an error instead
+abbrev pub errorless : Version → List ℕ → Bool
+errorless V1 x = true
+errorless V2 x = eqb (stat2At x .error) 0
+
+-- a stat's reply at the front of x
+unfoldable pub isStat : Version → List ℕ → Bool
+isStat v x = leb (statSizeOf v) (length x) && same (idAt x) (letters (statIdOf v)) && errorless v x
+
+abbrev pub statTold : Version → List ℕ → Answer
+statTold V1 x = A.StatV1 (statOf (statAt x))
+statTold V2 x = A.StatV2 (stat2Of (stat2At x))
+
+-- the bytes that are held once k more have come
+abbrev pub cameIn : (rec rx : List ℕ) → (k : ℕ) → List ℕ
+cameIn rec rx k = heldBytes rx (cursor (numberIn rec 2) (numberIn rec 3 + k))
+
+-- k bytes that came into the window, up to where the need is met, and with them a stat's reply
+abbrev pub statCame : (rec rx : List ℕ) → (k : ℕ) → Version → Bool
+statCame rec rx k v =
+    ltb 0 k && leb k (length rx - numberIn rec 3) && leb (numberIn rec 9) (numberIn rec 3 + k) && isStat v (cameIn rec rx k)
+
+-- the record and the reply then
+abbrev pub statDone : (rec rx : List ℕ) → (k : ℕ) → Version → (out : List ℕ) → Bool × List ℕ × List ℕ
+statDone rec rx k v out =
+    done (statCame rec rx k v) rec (numberIn rec 2 + statSizeOf v) (numberIn rec 3 + k) (numberIn rec 4) 0 0 (Told (statTold v (cameIn rec rx k))) out
+
+-- states 13 and 14
+abbrev pub statVersion : ℕ → Version
+statVersion state = pick (eqb state 13) V1 V2
+
+abbrev pub statNow : (rec rx msg lent : List ℕ) → (k : ℕ) → (out : List ℕ) → Bool
+statNow rec rx msg lent k out =
+    leb 13 (numberIn rec 7) && leb (numberIn rec 7) 14 && leb outSize (length out) && standing (loaded rec) (length rx) (length msg)
+    && eqb (length lent) (numberIn rec 4)
+    && statCame rec rx k (statVersion (numberIn rec 7))

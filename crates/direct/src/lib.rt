@@ -5,24 +5,29 @@ ghost use mathlib.Core.Path.{_≡_};
 ghost use Prim.Native.Nat.{ℕ, _≤_};
 ghost use lib.ListN.{length};
 ghost use Rattle.protocol.specs.Bytes.{put};
-ghost use Rattle.boundary.specs.Crossing.{crossed, crossStart};
+ghost use Rattle.boundary.specs.Crossing.{crossed, crossStart, crossRead};
 ghost use Rattle.boundary.specs.Told.{replyBytes, outSize};
 ghost use Rattle.record.specs.Record.{size};
-ghost use Rattle.session.specs.Phases.{entrySizeOf};
+ghost use Rattle.session.specs.Phases.{statSizeOf, entrySizeOf};
 ghost use Rattle.session.specs.declared.Reply.the-variants.{Told};
 ghost use Rattle.standing.specs.Standing.{numberIn};
-ghost use Rattle.direct.specs.Direct.{tried, nameLengthOf, entryLength, entryTold, entryVersion, entryDone, entryNow};
+ghost use Rattle.direct.specs.Direct.{tried, nameLengthOf, entryLength, entryTold, entryVersion, entryDone, entryNow, errorless, isStat, statTold, statDone, statVersion, statNow};
 use format_number::u32_at;
 use format_record::stat_v1_at;
 use format_record::stat_v2_at;
 use phases::entry_id;
 use phases::entry_size;
+use phases::stat_id;
+use phases::stat_size;
 use reply::put_stat;
 use reply::put_stat_v2;
 use session::Version;
 use standing::number;
 use standing::stands;
 use standing::store_plain;
+
+// The longest reply.
+const REPLY: usize = 112;
 
 // ---- a listing step whose entry is held whole
 
@@ -97,12 +102,117 @@ pub fn entry(rec: &mut [u8], rx: &[u8], msg: &[u8], lent: &[u8], call: u32, out:
     if 13 < call {
         return false;
     }
-    if out.len() < 112 {
+    if out.len() < REPLY {
         return false;
     }
     if number(rec, 7) == 0 {
         if stands(rec, rx.len(), msg.len()) {
             return entry_at(rec, rx, lent.len(), version(call), out);
+        }
+        return false;
+    }
+    false
+}
+
+// ---- a read that completes a stat's reply
+
+// A stat of version 2 can carry an error instead.
+fn errorless(x: &[u8], v: Version) -> bool
+    requires { ⌜ statSizeOf v ≤ length (now x) ⌝ }
+    ensures { λ r. ⌜ r ≡ errorless v (now (x .entry)) ⌝ }
+{
+    match v {
+        Version::V1 => true,
+        Version::V2 => u32_at(x, 4) == 0,
+    }
+}
+
+// Whether x begins with a stat's reply.
+fn is_stat(x: &[u8], v: Version) -> bool
+    ensures { λ r. ⌜ r ≡ isStat v (now (x .entry)) ⌝ }
+{
+    if x.len() < stat_size(v) {
+        return false;
+    }
+    if u32_at(x, 0) == stat_id(v) {
+        return errorless(x, v);
+    }
+    false
+}
+
+// The stat at the front of x.
+fn tell_stat(out: &mut [u8], v: Version, x: &[u8])
+    requires { ⌜ statSizeOf v ≤ length (now x) ⌝ }
+    ensures { λ _. ⌜ now (out .exit) ≡ put (now (out .entry)) 0 (replyBytes (Told (statTold v (now (x .entry))))) ⌝ }
+{
+    match v {
+        Version::V1 => put_stat(out, 2, 0, 0, stat_v1_at(x, 0)),
+        Version::V2 => put_stat_v2(out, 3, 0, 0, stat_v2_at(x, 0)),
+    }
+}
+
+// The stat at head, with count more bytes behind tail, and head moved past it; nothing where it is not whole.
+fn stat_at(rec: &mut [u8], rx: &[u8], count: usize, v: Version, out: &mut [u8]) -> bool
+    requires { ⌜ (length (now rec) ≡ size) × (numberIn (now rec) 2 ≤ numberIn (now rec) 3) × (numberIn (now rec) 3 ≤ length (now rx)) ⌝ }
+    ensures { λ r. ⌜ (r, now (rec .exit), now (out .exit)) ≡ statDone (now (rec .entry)) (now (rx .entry)) count v (now (out .entry)) ⌝ }
+{
+    let head = number(rec, 2);
+    let tail = number(rec, 3);
+    if count == 0 {
+        return false;
+    }
+    let free = rx.len() - tail;
+    if free < count {
+        return false;
+    }
+    let end = tail + count;
+    if end < number(rec, 9) {
+        return false;
+    }
+    let x = &rx[head..end];
+    if is_stat(x, v) {
+        let lent = number(rec, 4);
+        let next = head + stat_size(v);
+        tell_stat(out, v, x);
+        store_plain(rec, next, end, lent, 0, 0);
+        return true;
+    }
+    false
+}
+
+fn stat_version(state: usize) -> Version
+    ensures { λ r. ⌜ r ≡ statVersion state ⌝ }
+{
+    if state == 13 {
+        return Version::V1;
+    }
+    Version::V2
+}
+
+// count bytes were read into the window of a stat that awaits its reply.
+pub fn stat(
+    rec: &mut [u8],
+    rx: &[u8],
+    msg: &[u8],
+    lent: &[u8],
+    count: usize,
+    out: &mut [u8],
+) -> bool
+    ensures { λ r. ⌜ (r, crossed (now (rec .exit)) (now (rx .entry)) (now (msg .entry)) (now (out .exit)) 0) ≡ tried (statNow (now (rec .entry)) (now (rx .entry)) (now (msg .entry)) (now (lent .entry)) count (now (out .entry))) (crossRead (now (rec .entry)) (now (rx .entry)) (now (msg .entry)) (now (lent .entry)) count (now (out .entry))) (crossed (now (rec .entry)) (now (rx .entry)) (now (msg .entry)) (now (out .entry)) 0) ⌝ }
+{
+    let state = number(rec, 7);
+    if state < 13 {
+        return false;
+    }
+    if 14 < state {
+        return false;
+    }
+    if out.len() < REPLY {
+        return false;
+    }
+    if stands(rec, rx.len(), msg.len()) {
+        if lent.len() == number(rec, 4) {
+            return stat_at(rec, rx, count, stat_version(state), out);
         }
         return false;
     }
