@@ -5,6 +5,7 @@ ghost use Rattle.exports.specs.Crossed.{openCrossed, readAnew};
 use calls::Opened;
 use calls::open;
 use direct::entry;
+use direct::stat;
 use numbered::begin;
 use numbered::fault_of;
 use put_back::give_back;
@@ -92,7 +93,7 @@ pub extern "C" fn yuglasno_start(
     start_anew(rec, rx, msg, lent, call, a, b, out)
 }
 
-// count bytes were read into the window.
+// count bytes were read into the window: the long way.
 fn read_in(
     rec: &mut [u8],
     rx: &mut [u8],
@@ -117,8 +118,7 @@ fn read_in(
 }
 
 // The same. Where the bytes leave the need short, only tail is loaded and stored.
-#[no_mangle]
-pub extern "C" fn yuglasno_read(
+fn read_short(
     rec: &mut [u8],
     rx: &mut [u8],
     msg: &mut [u8],
@@ -139,6 +139,24 @@ pub extern "C" fn yuglasno_read(
     store_tail(rec, tail);
     put_two(out, tail as u64, len as u64);
     1
+}
+
+// count bytes were read into the window. A stat's reply that they complete goes the short way too.
+#[no_mangle]
+pub extern "C" fn yuglasno_read(
+    rec: &mut [u8],
+    rx: &mut [u8],
+    msg: &mut [u8],
+    lent: &[u8],
+    count: usize,
+    out: &mut [u8],
+) -> u32
+    ensures { λ r. ⌜ crossed (now (rec .exit)) (now (rx .exit)) (now (msg .exit)) (now (out .exit)) r ≡ crossRead (now (rec .entry)) (now (rx .entry)) (now (msg .entry)) (now (lent .entry)) count (now (out .entry)) ⌝ }
+{
+    if stat(rec, rx, msg, lent, count, out) {
+        return TOLD;
+    }
+    read_short(rec, rx, msg, lent, count, out)
 }
 
 // The write or the close that was asked for was accepted.
