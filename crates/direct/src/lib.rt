@@ -1,5 +1,5 @@
 // Steps that are taken at once, on the numbers of a lent record: a short cut for loading its session, stepping it and storing it again.
-// Each is tried first. Where it is not taken nothing is altered, and the long way is gone.
+// Each is tried first. Where it is not taken nothing is altered, and the long way follows.
 ghost use mathlib.Core.List.{List};
 ghost use mathlib.Core.Path.{_≡_};
 ghost use Prim.Native.Nat.{ℕ, _≤_};
@@ -92,7 +92,7 @@ fn version(call: u32) -> Version
     Version::V2
 }
 
-// Calls 12 and 13.
+// Calls 12 and 13: true where the step is taken, false where nothing is altered.
 pub fn entry(rec: &mut [u8], rx: &[u8], msg: &[u8], lent: &[u8], call: u32, out: &mut [u8]) -> bool
     ensures { λ r. ⌜ ((a b : ℕ) → (r, crossed (now (rec .exit)) (now (rx .entry)) (now (msg .entry)) (now (out .exit)) 0) ≡ tried (entryNow (now (rec .entry)) (now (rx .entry)) (now (msg .entry)) call (now (out .entry))) (crossStart (now (rec .entry)) (now (rx .entry)) (now (msg .entry)) (now (lent .entry)) call a b (now (out .entry))) (crossed (now (rec .entry)) (now (rx .entry)) (now (msg .entry)) (now (out .entry)) 0)) ⌝ }
 {

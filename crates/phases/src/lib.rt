@@ -1,6 +1,6 @@
-// The phases of a session: how many bytes each wants, and the turn it takes once they are held (000's sync/sync.rs).
+// The phases of a session: how many bytes each wants, and the turn it takes once they are held (000's sync.rs).
 ghost use mathlib.Core.Path.{_≡_};
-ghost use Prim.Native.Nat.{_+_, _≤_, min, max};
+ghost use Prim.Native.Nat.{_+_, _-_, _<_, _≤_, min, max};
 ghost use lib.ListN.{length, drop};
 ghost use Rattle.protocol.specs.Bytes.{le};
 ghost use Rattle.protocol.specs.Ids.{letters};
@@ -9,6 +9,8 @@ ghost use Rattle.session.specs.Phases.{wants, statSizeOf, entrySizeOf, stopping
 use format_number::u32_at;
 use format_record::DENT_V1_SIZE;
 use format_record::DENT_V2_SIZE;
+use format_record::DentV1;
+use format_record::DentV2;
 use format_record::HEADER_SIZE;
 use format_record::STAT_V1_SIZE;
 use format_record::STAT_V2_SIZE;
@@ -233,6 +235,75 @@ fn drains(drops: usize, keeps: usize, left: usize, text: usize) -> Turn
     }
 }
 
+// The record of the DONE that ends a listing.
+fn last(v: Version) -> Turn
+    ensures { λ r. ⌜ r ≡ stopping (entrySizeOf v) Answer.End ⌝ }
+{
+    let size = entry_size(v);
+    stops(size, Answer::End)
+}
+
+// An entry's name, from head on.
+fn name_v1(d: DentV1, head: usize) -> Turn
+    ensures { λ r. ⌜ r ≡ stopping (d .namelen) (Answer.EntryV1 (d .stat) head (d .namelen)) ⌝ }
+{
+    let len = d.namelen as usize;
+    let stat = d.stat;
+    stops(
+        len,
+        Answer::EntryV1 {
+            stat,
+            at: head,
+            len,
+        },
+    )
+}
+
+fn name_v2(d: DentV2, head: usize) -> Turn
+    ensures { λ r. ⌜ r ≡ stopping (d .namelen) (Answer.EntryV2 (d .stat) head (d .namelen)) ⌝ }
+{
+    let len = d.namelen as usize;
+    let stat = d.stat;
+    stops(
+        len,
+        Answer::EntryV2 {
+            stat,
+            at: head,
+            len,
+        },
+    )
+}
+
+// A DATA message of n bytes, its header at head.
+fn body(n: u32, head: usize) -> Turn
+    requires { ⌜ head + 8 < 0x8000_0000_0000_0000 ⌝ }
+    ensures { λ r. ⌜ r ≡ stopping (8 + n) (Answer.Chunk (head + 8) n) ⌝ }
+{
+    let len = n as usize;
+    let drops = HEADER_SIZE + len;
+    let at = head + HEADER_SIZE;
+    stops(drops, Answer::Chunk { at, len })
+}
+
+// A FAIL text of n bytes, of which the buffer holds the first.
+fn text(n: u32, capacity: usize) -> Turn
+    ensures { λ r. ⌜ r ≡ drained (min n capacity) (min n capacity) (n - min n capacity) (min n capacity) ⌝ }
+{
+    let whole = n as usize;
+    let m = smaller(whole, capacity);
+    let left = whole - m;
+    drains(m, m, left, m)
+}
+
+// What is left of one that is longer.
+fn rest(left: usize, text: usize, capacity: usize) -> Turn
+    ensures { λ r. ⌜ r ≡ drained (min left capacity) 0 (left - min left capacity) text ⌝ }
+{
+    let m = smaller(left, capacity);
+    let after = left - m;
+    drains(m, 0, after, text)
+}
+
 // The turn at a phase whose bytes are held from head on.
 fn turn(capacity: usize, p: Phase, rx: &[u8], head: usize) -> Turn
     requires { ⌜ head + wants capacity p ≤ length (now rx) ⌝ }
@@ -242,51 +313,12 @@ fn turn(capacity: usize, p: Phase, rx: &[u8], head: usize) -> Turn
         Phase::Header(w) => header(w, rx, head),
         Phase::Stat(v) => stat(v, rx, head),
         Phase::Entry(v) => entry(v, rx, head),
-        Phase::Last(v) => {
-            let size = entry_size(v);
-            stops(size, Answer::End)
-        }
-        Phase::NameV1(d) => {
-            let len = d.namelen as usize;
-            let stat = d.stat;
-            stops(
-                len,
-                Answer::EntryV1 {
-                    stat,
-                    at: head,
-                    len,
-                },
-            )
-        }
-        Phase::NameV2(d) => {
-            let len = d.namelen as usize;
-            let stat = d.stat;
-            stops(
-                len,
-                Answer::EntryV2 {
-                    stat,
-                    at: head,
-                    len,
-                },
-            )
-        }
-        Phase::Body(n) => {
-            let len = n as usize;
-            let drops = HEADER_SIZE + len;
-            let at = head + HEADER_SIZE;
-            stops(drops, Answer::Chunk { at, len })
-        }
-        Phase::Text(n) => {
-            let whole = n as usize;
-            let m = smaller(whole, capacity);
-            let left = whole - m;
-            drains(m, m, left, m)
-        }
-        Phase::Rest { left, text } => {
-            let m = smaller(left, capacity);
-            let after = left - m;
-            drains(m, 0, after, text)
-        }
+        Phase::Last(v) => last(v),
+        Phase::NameV1(d) => name_v1(d, head),
+        Phase::NameV2(d) => name_v2(d, head),
+        Phase::Body(n) => body(n, head),
+        Phase::Text(n) => text(n, capacity),
+        Phase::Rest { left, text } => rest(left, text, capacity),
     }
 }
 

@@ -7,10 +7,10 @@ use Rattle.protocol.specs.Decimal.{decimal}
 use Rattle.protocol.specs.Features.{hasFeature, after, split}
 use Rattle.protocol.specs.Flags.{refusedFlags, several, unknown, dryRun}
 use Rattle.protocol.specs.Messages.{bytesOfRequest, messageOf}
-use Rattle.protocol.specs.Reader.{plain, drain, written}
+use Rattle.protocol.specs.Reader.{plain, drain, written, plainAnswers}
 use Rattle.protocol.specs.Records.{statAt}
 use Rattle.protocol.specs.Trials.{Trial, trials}
 
 pub trials-hold : map (λ (t : Trial). t .computed) trials ≡ map (λ (t : Trial). t .paper) trials
-unfolding decimal hasFeature after split refusedFlags several unknown dryRun bytesOfRequest messageOf plain drain written refusal requestRefusal pathRefusal statAt numberAt
+unfolding decimal hasFeature after split refusedFlags several unknown dryRun bytesOfRequest messageOf plain drain written plainAnswers refusal requestRefusal pathRefusal statAt numberAt
 trials-hold = refl

@@ -13,7 +13,7 @@ use Rattle.protocol.specs.Features.{hasFeature}
 use Rattle.protocol.specs.Flags.{refusedFlags}
 use Rattle.protocol.specs.Ids.{published}
 use Rattle.protocol.specs.Messages.{Request, ask, stat, recv, rcv2, send, snd2, bytesOfRequest, messageOf}
-use Rattle.protocol.specs.Reader.{Config, Reply, accepted, plainCall}
+use Rattle.protocol.specs.Reader.{Config, Reply, accepted, plainCall, plainAnswers}
 
 -- what a trial piece shows: bytes, or a size and an arg, or yes or no, or an answer with what it leaves unread
 pub data Shown : Type 0 where
@@ -21,6 +21,7 @@ pub data Shown : Type 0 where
   sizes : (size arg : ℕ) → Shown
   said : Bool → Shown
   answered : Reply → Shown
+  answers : List Answer → Shown
 
 pub record Trial : Type 0 where
   pub computed : Shown
@@ -46,6 +47,10 @@ holding c = record { setting = record { dialect = published; features = []; ende
 -- what the call answers on these unread bytes, and what it leaves
 abbrev pub reads : (capacity : ℕ) → Call → (unread : List ℕ) → Answer → (left : List ℕ) → Trial
 reads c q u a left = record { computed = answered (plainCall (holding c) (error 0) accepted q u); paper = answered (record { answer = a; unread = left }) }
+
+-- what a list of calls answers on them
+abbrev pub readsOn : (capacity : ℕ) → List Call → (unread : List ℕ) → List Answer → Trial
+readsOn c qs u list = record { computed = answers (plainAnswers (holding c) (error 0) qs u); paper = answers list }
 
 abbrev pub statReply : List ℕ
 statReply = ascii "STAT" ++ 0xA4 ∷ 0x81 ∷ 0 ∷ 0 ∷ 0xCE ∷ 0x07 ∷ 0 ∷ 0 ∷ 5 ∷ 0 ∷ 0 ∷ 0 ∷ []
@@ -74,5 +79,6 @@ trials =
     ∷ reads 15 (call (ask stat (ascii "/a"))) statReply A.tooLarge statReply
     ∷ reads 8 nextChunk (ascii "DATA" ++ 0 ∷ 0 ∷ 0 ∷ 0 ∷ [] ++ ascii "DONE") (A.chunk []) (ascii "DONE")
     ∷ reads 8 nextChunk (ascii "DATA" ++ 1 ∷ 0 ∷ 0 ∷ 0 ∷ [] ++ ascii "x") A.tooLarge (ascii "DATA" ++ 1 ∷ 0 ∷ 0 ∷ 0 ∷ [] ++ ascii "x")
+    ∷ readsOn 8 (nextChunk ∷ nextChunk ∷ []) (ascii "DATA" ++ 1 ∷ 0 ∷ 0 ∷ 0 ∷ [] ++ ascii "x") (A.tooLarge ∷ A.tooLarge ∷ [])
     ∷ reads 8 nextChunk (ascii "FAIL" ++ 20 ∷ 0 ∷ 0 ∷ 0 ∷ [] ++ ascii "no such file or dir!DONE") (A.fail (ascii "no such ")) (ascii "DONE")
     ∷ []

@@ -1,4 +1,4 @@
-// Reading on: turns through the phases, until there is an answer or a read is asked for (000's sync/sync.rs).
+// Reading on: turns through the phases, until there is an answer or a read is asked for (000's sync.rs).
 ghost use mathlib.Core.List.{List};
 ghost use mathlib.Core.Path.{_≡_};
 ghost use Prim.Native.Nat.{ℕ, _+_, _≤_, _<_};

@@ -1,6 +1,7 @@
 -- `phases::turn` meets its contract, phase by phase. Assumes nothing.
 use mathlib.Core.Path.{_≡_, subst}
 use Prim.Native.Nat.{_+_, _≤_}
+use native.Mathlib.Omega.{arith}
 use borrow.Author.Needs.{needs}
 use denote.Ref.{now}
 use lib.ListN.{length}
@@ -32,23 +33,12 @@ turn-spec =
     (λ c κs. there (c .before .before .before) (c .before .p3 .given .1))
     (λ c. search needs)
     (λ c κs. search needs)
-    (λ c κs. search needs)
-    (λ c. search needs)
-    (λ c. search needs)
-    (λ c κs. search needs)
-    (λ c. search needs)
-    (λ c. search needs)
-    (λ c κs. search needs)
-    (λ c. search needs)
-    (λ c. search needs)
-    (λ c. search needs)
-    (λ c. search needs)
-    (λ c κs. search needs)
-    (λ c. search needs)
     (λ c. search needs)
     (λ c κs. search needs)
     (λ c. search needs)
     (λ c κs. search needs)
+    (λ c. search needs)
+    (λ c κs. omega (arith, there (c .before .before .before) (c .before .p7 .given .1)))
     (λ c. search needs)
     (λ c κs. search needs)
     (λ c. search needs)
@@ -56,9 +46,9 @@ turn-spec =
     (λ c. by-phase (c .before .before .before .before) (c .before .before .p .given .1) (c .header .ensures))
     (λ c. by-phase (c .before .before .before .before) (c .before .before .p2 .given .1) (c .stat .ensures))
     (λ c. by-phase (c .before .before .before .before) (c .before .before .p3 .given .1) (c .entry .ensures))
-    (λ c. by-phase (c .before .before .before .before .before) (c .before .before .before .p4 .given .1) (simp (← (c .before .entry-size .ensures)) (c .stops .ensures)))
-    (λ c. by-phase (c .before .before .before .before .before .before) (c .before .before .before .before .p5 .given .1) (c .stops2 .ensures))
-    (λ c. by-phase (c .before .before .before .before .before .before) (c .before .before .before .before .p6 .given .1) (c .stops3 .ensures))
-    (λ c. by-phase (c .before .before .before .before) (c .before .before .p7 .given .1) (c .stops4 .ensures))
-    (λ c. by-phase (c .before .before .before .before .before) (c .before .before .before .p8 .given .1) (simp (← (c .before .smaller .ensures)) (c .drains .ensures)))
-    (λ c. by-phase (c .before .before .before .before .before) (c .before .before .before .p9 .given .1) (simp (← (c .before .smaller2 .ensures)) (c .drains2 .ensures))))
+    (λ c. by-phase (c .before .before .before .before) (c .before .before .p4 .given .1) (c .last .ensures))
+    (λ c. by-phase (c .before .before .before .before) (c .before .before .p5 .given .1) (c .name-v1 .ensures))
+    (λ c. by-phase (c .before .before .before .before) (c .before .before .p6 .given .1) (c .name-v2 .ensures))
+    (λ c. by-phase (c .before .before .before .before) (c .before .before .p7 .given .1) (c .body .ensures))
+    (λ c. by-phase (c .before .before .before .before) (c .before .before .p8 .given .1) (c .text .ensures))
+    (λ c. by-phase (c .before .before .before .before) (c .before .before .p9 .given .1) (c .rest .ensures)))
