@@ -141,9 +141,9 @@ module _ (rec rx msg lent out : List ℕ) (h : Stands rec (length rx) (length ms
       (rw (
         range .0,
         range .1,
-        le-leb outSize (length out) o,
         stands-in rec (length rx) (length msg) h,
         eq-eqb (length lent) (numberIn rec 4) same,
+        le-leb outSize (length out) o,
         version-of,
       ))
       (λ z. let c = came-of rec rx k v z in ap (back rec out) (place k c ∙ stat-stepped k c) ∙ rw (not-short k c))

@@ -105,6 +105,6 @@ statVersion state = pick (eqb state 13) V1 V2
 
 abbrev pub statNow : (rec rx msg lent : List ℕ) → (k : ℕ) → (out : List ℕ) → Bool
 statNow rec rx msg lent k out =
-    leb 13 (numberIn rec 7) && leb (numberIn rec 7) 14 && leb outSize (length out) && standing (loaded rec) (length rx) (length msg)
-    && eqb (length lent) (numberIn rec 4)
+    leb 13 (numberIn rec 7) && leb (numberIn rec 7) 14 && standing (loaded rec) (length rx) (length msg) && eqb (length lent) (numberIn rec 4)
+    && leb outSize (length out)
     && statCame rec rx k (statVersion (numberIn rec 7))

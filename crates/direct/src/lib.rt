@@ -207,11 +207,11 @@ pub fn stat(
     if 14 < state {
         return false;
     }
-    if out.len() < REPLY {
-        return false;
-    }
     if stands(rec, rx.len(), msg.len()) {
         if lent.len() == number(rec, 4) {
+            if out.len() < REPLY {
+                return false;
+            }
             return stat_at(rec, rx, count, stat_version(state), out);
         }
         return false;

@@ -8,7 +8,7 @@ use lib.ListN.{length}
 use Rattle.boundary.specs.Told.{outSize}
 use Rattle.session.specs.declared.Version.{Version}
 use Rattle.standing.specs.Standing.{numberIn, Stands}
-use Rattle.standing.proofs.Laws.{stands-in, stands-of}
+use Rattle.standing.proofs.Laws.{stands-of}
 use Rattle.direct.specs.Direct.{statDone, statVersion, statNow}
 use Rattle.direct.proofs.Replies.{stat-tried, state-of}
 use Rattle.direct.proofs.Taken.{not-tried}
@@ -16,8 +16,8 @@ use Rattle.direct.proofs.stat.Statement.{statement}
 use Rattle.direct.proofs.stat.Tie as tie
 
 -- the record stands
-stood : (c : tie.Then4) → Stands (now (c .before .before .before .before .before .before .before .before .before .before .before .before .before .args .rec)) (length (now (c .before .before .before .before .before .before .before .before .before .before .before .before .before .args .rx))) (length (now (c .before .before .before .before .before .before .before .before .before .before .before .before .before .args .msg)))
-stood c = let a = c .before .before .before .before .before .before .before .before .before .before .before .before .before .args in stands-of (now (a .rec)) (length (now (a .rx))) (length (now (a .msg))) (sym (c .before .stands .ensures) ∙ c .if4 .taken)
+stood : (c : tie.Then3) → Stands (now (c .before .before .before .before .before .before .before .before .before .before .before .before .args .rec)) (length (now (c .before .before .before .before .before .before .before .before .before .before .before .before .args .rx))) (length (now (c .before .before .before .before .before .before .before .before .before .before .before .before .args .msg)))
+stood c = let a = c .before .before .before .before .before .before .before .before .before .before .before .before .args in stands-of (now (a .rec)) (length (now (a .rx))) (length (now (a .msg))) (sym (c .before .stands .ensures) ∙ c .if3 .taken)
 
 below : tie.Need-returns
 below c =
@@ -32,43 +32,47 @@ above c =
 
 short : tie.Need-returns-3
 short c =
-    let s = c .before .before .before .before .before .before .before .before .before .before .args in
+    let s = c .before .before .before .before .before .before .before .before .before .before .before .before .before .before .before .before .args in
     not-tried (statNow (now (s .rec)) (now (s .rx)) (now (s .msg)) (now (s .lent)) (s .count) (now (s .out))) _ _
-    (rw (le-leb 13 (numberIn (now (s .rec)) 7) (omega arith), le-leb (numberIn (now (s .rec)) 7) 14 (omega arith), lt-leb outSize (length (now (s .out))) (c .if3 .taken)))
+    (rw (
+      le-leb 13 (numberIn (now (s .rec)) 7) (omega arith),
+      le-leb (numberIn (now (s .rec)) 7) 14 (omega arith),
+      sym (c .before .before .before .before .before .stands .ensures) ∙ c .before .before .before .before .if3 .taken,
+      eq-eqb (length (now (s .lent))) (numberIn (now (s .rec)) 4) (c .before .if4 .taken ∙ c .before .before .number2 .ensures),
+      lt-leb outSize (length (now (s .out))) (c .if5 .taken),
+    ))
 
 parts : tie.Need-stat-at-requires
-parts c κs = let h = stood (c .before .before .before .before .before .before) in (h .sized, h .order, omega (arith, h))
+parts c κs = let h = stood (c .before .before .before .before .before .before .before) in (h .sized, h .order, omega (arith, h))
 
 steps : tie.Need-returns-4
 steps c =
     let s = c .before .before .before .before .before .before .before .before .before .before .before .before .before .before .before .before .before .before .before .before .before .before .before .before .args in
     let n = numberIn (now (s .rec)) 7 in
     let e = c .before .before .before .before .before .before .before .before .before .before .before .before .before .before .before .before .before .number .ensures in
-    stat-tried (now (s .rec)) (now (s .rx)) (now (s .msg)) (now (s .lent)) (now (s .out)) (stood (c .before .before .before .before .before .before .before .before .before .before .before)) (c .before .before .before .before .before .before .before .before .before .before .before .before .before .before .if3 .left) (c .before .before .before .before .before .before .before .before .if5 .taken ∙ c .before .before .before .before .before .before .before .before .before .number2 .ensures) (statVersion n)
+    stat-tried (now (s .rec)) (now (s .rx)) (now (s .msg)) (now (s .lent)) (now (s .out)) (stood (c .before .before .before .before .before .before .before .before .before .before .before .before)) (c .before .before .before .before .before .before .before .before .if5 .left) (c .before .before .before .before .before .before .before .before .before .if4 .taken ∙ c .before .before .before .before .before .before .before .before .before .before .number2 .ensures) (statVersion n)
     (state-of n (omega arith) (omega arith)) (s .count) _ _ _
     (c .before .before .before .before .stat-at .ensures ∙ ap (λ (v : Version). statDone (now (s .rec)) (now (s .rx)) (s .count) v (now (s .out))) (c .before .before .before .before .before .before .stat-version .ensures ∙ ap statVersion e))
 
 other : tie.Need-returns-5
 other c =
-    let s = c .before .before .before .before .before .before .before .before .before .before .before .before .before .before .before .before .args in
+    let s = c .before .before .before .before .before .before .before .before .before .before .before .before .before .before .before .args in
     not-tried (statNow (now (s .rec)) (now (s .rx)) (now (s .msg)) (now (s .lent)) (s .count) (now (s .out))) _ _
     (rw (
       le-leb 13 (numberIn (now (s .rec)) 7) (omega arith),
       le-leb (numberIn (now (s .rec)) 7) 14 (omega arith),
-      le-leb outSize (length (now (s .out))) (c .before .before .before .before .before .before .if3 .left),
-      sym (c .before .before .before .before .stands .ensures) ∙ c .before .before .before .if4 .taken,
-      ne-eqb (length (now (s .lent))) (numberIn (now (s .rec)) 4) (λ e. c .if5 .left (e ∙ sym (c .before .number2 .ensures))),
+      sym (c .before .before .before .before .stands .ensures) ∙ c .before .before .before .if3 .taken,
+      ne-eqb (length (now (s .lent))) (numberIn (now (s .rec)) 4) (λ e. c .if4 .left (e ∙ sym (c .before .number2 .ensures))),
     ))
 
 unfit : tie.Need-returns-6
 unfit c =
-    let s = c .before .before .before .before .before .before .before .before .before .before .before .before .before .args in
+    let s = c .before .before .before .before .before .before .before .before .before .before .before .before .args in
     not-tried (statNow (now (s .rec)) (now (s .rx)) (now (s .msg)) (now (s .lent)) (s .count) (now (s .out))) _ _
     (rw (
       le-leb 13 (numberIn (now (s .rec)) 7) (omega arith),
       le-leb (numberIn (now (s .rec)) 7) 14 (omega arith),
-      le-leb outSize (length (now (s .out))) (c .before .before .before .if3 .left),
-      sym (c .before .stands .ensures) ∙ c .if4 .left,
+      sym (c .before .stands .ensures) ∙ c .if3 .left,
     ))
 
 pub stat-spec : {M : Type 1} → statement M
@@ -80,10 +84,10 @@ stat-spec =
     below
     (λ c. search needs)
     above
+    (λ c κs. search needs)
+    (λ c κs. search needs)
     (λ c. search needs)
     short
-    (λ c κs. search needs)
-    (λ c κs. search needs)
     (λ c κs. search needs)
     parts
     (λ c. search needs)
