@@ -1,0 +1,2 @@
+-- `Asks`: a stat whose message is out awaits its header.
+mod Asks
