@@ -6,6 +6,7 @@ use calls::Opened;
 use calls::open;
 use direct::entry;
 use direct::stat;
+use direct_request::sent;
 use numbered::begin;
 use numbered::fault_of;
 use put_back::give_back;
@@ -25,6 +26,8 @@ const REPLY: usize = 112;
 
 // What a step that goes the short way asks or tells.
 const TOLD: u32 = 0;
+
+const READ: u32 = 1;
 
 // 3, told: that slice, or a record that holds no session.
 const AWAY: u32 = 768;
@@ -138,7 +141,7 @@ fn read_short(
     let len = rx.len() - tail;
     store_tail(rec, tail);
     put_two(out, tail as u64, len as u64);
-    1
+    READ
 }
 
 // count bytes were read into the window. A stat's reply that they complete goes the short way too.
@@ -159,15 +162,8 @@ pub extern "C" fn yuglasno_read(
     read_short(rec, rx, msg, lent, count, out)
 }
 
-// The write or the close that was asked for was accepted.
-#[no_mangle]
-pub extern "C" fn yuglasno_wrote(
-    rec: &mut [u8],
-    rx: &mut [u8],
-    msg: &mut [u8],
-    lent: &[u8],
-    out: &mut [u8],
-) -> u32
+// The write or the close that was asked for was accepted: the long way.
+fn wrote_anew(rec: &mut [u8], rx: &mut [u8], msg: &mut [u8], lent: &[u8], out: &mut [u8]) -> u32
     ensures { λ r. ⌜ crossed (now (rec .exit)) (now (rx .exit)) (now (msg .exit)) (now (out .exit)) r ≡ crossWrote (now (rec .entry)) (now (rx .entry)) (now (msg .entry)) (now (lent .entry)) (now (out .entry)) ⌝ }
 {
     if out.len() < REPLY {
@@ -181,6 +177,23 @@ pub extern "C" fn yuglasno_wrote(
             give_back(stepped, rec, out)
         }
     }
+}
+
+// The same. A stat whose message is out awaits its reply the short way.
+#[no_mangle]
+pub extern "C" fn yuglasno_wrote(
+    rec: &mut [u8],
+    rx: &mut [u8],
+    msg: &mut [u8],
+    lent: &[u8],
+    out: &mut [u8],
+) -> u32
+    ensures { λ r. ⌜ crossed (now (rec .exit)) (now (rx .exit)) (now (msg .exit)) (now (out .exit)) r ≡ crossWrote (now (rec .entry)) (now (rx .entry)) (now (msg .entry)) (now (lent .entry)) (now (out .entry)) ⌝ }
+{
+    if sent(rec, rx, msg, lent, out) {
+        return READ;
+    }
+    wrote_anew(rec, rx, msg, lent, out)
 }
 
 // What was asked for came to a fault: kind 0 closed, any other an error with its code.

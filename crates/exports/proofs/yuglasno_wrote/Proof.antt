@@ -1,43 +1,35 @@
--- `exports::yuglasno_wrote` meets its contract. Assumes nothing.
+-- `exports::yuglasno_wrote` meets its contract: a step that was taken at once is its crossing, and one that was not has altered nothing.
+-- Assumes nothing.
+use mathlib.Core.Path.{ap, _∙_}
 use borrow.Author.Needs.{needs}
 use denote.Ref.{now}
-use Rattle.boundary.specs.Crossing.{crossWrote}
-use Rattle.session.specs.Reports.{reportWrote}
-use Rattle.exports.proofs.Crossings.{cross-short, cross-unknown, cross-back}
+use Rattle.boundary.specs.Crossing.{Crossed, crossWrote}
+use Rattle.direct.proofs.Taken.{was-taken, was-left}
 use Rattle.exports.proofs.yuglasno_wrote.Statement.{statement}
 use Rattle.exports.proofs.yuglasno_wrote.Tie as tie
 
-short : tie.Need-returns
-unfolding crossWrote
-short c = let a = c .before .before .before .before .before .before .args in cross-short (now (a .rec)) (now (a .rx)) (now (a .msg)) (now (a .out)) _ (c .if1 .taken)
+sent : tie.Need-returns
+sent c = was-taken _ _ _ _ _ (c .before .before .before .before .before .sent .ensures) (c .if1 .taken)
 
-unknown : tie.Need-returns-2
-unfolding crossWrote
-unknown c =
-    let a = c .before .before .before .before .before .before .before .before .before .before .args in
-    cross-unknown (now (a .rec)) (now (a .rx)) (now (a .msg)) (now (a .out)) _ (c .before .before .before .before .if1 .left) _ (c .enum-told .given .1) (c .before .before .load .ensures)
-
-stepped : tie.Need-returns-3
-unfolding crossWrote
-stepped c =
-    let a = c .before .before .before .before .before .before .before .before .before .before .before .before .before .before .before .before .before .before .before .before .before .before .before .before .before .args in
-    cross-back (now (a .rec)) (now (a .rx)) (now (a .msg)) (now (a .out)) (λ s. reportWrote s (now (a .lent))) (c .before .before .before .before .before .before .before .before .before .before .before .before .before .before .before .before .before .before .before .if1 .left)
-    _ _ (c .before .before .before .before .before .before .before .before .before .before .before .before .before .before .before .loaded .given .1) (c .before .before .before .before .before .before .before .before .before .before .before .before .before .before .before .before .before .load .ensures) _ (c .before .before .before .before .before .before .before .before .before .before .before .wrote .ensures) _ (c .before .before .before .before .give-back .ensures _ _)
+anew : tie.Need-returns-2
+anew c =
+    let a = c .before .before .before .before .before .before .before .before .before .before .before .before .before .before .before .before .before .before .before .before .before .before .before .before .before .before .before .before .args in
+    c .before .before .before .before .before .before .before .before .wrote-anew .ensures
+    ∙ ap (λ (x : Crossed). crossWrote (x .rec) (x .rx) (x .msg) (now (a .lent)) (x .out)) (was-left _ _ _ _ _ (c .before .before .before .before .before .before .before .before .before .before .before .before .before .before .before .before .before .before .sent .ensures) (c .before .before .before .before .before .before .before .before .before .before .before .before .before .if1 .left))
 
 pub yuglasno-wrote-spec : {M : Type 1} → statement M
 yuglasno-wrote-spec =
     tie.close
     (tie.spec
-    short
     (λ c κs. search needs)
     (λ c. search needs)
     (λ c. search needs)
+    (λ c. search needs)
+    (λ c. search needs)
+    sent
     (λ c κs. search needs)
-    (λ c κs. search needs)
-    (λ c. search needs)
-    unknown
     (λ c. search needs)
     (λ c. search needs)
     (λ c. search needs)
     (λ c. search needs)
-    stepped)
+    anew)
