@@ -68,7 +68,7 @@ module _ (rec rx msg lent out : List ℕ) (h : Stands rec (length rx) (length ms
       let x = heldIn rec rx in
       let i = numberIn rec 2 + entrySizeOf v in
       done-tried rec rx msg out h o (λ s. back rec out (callNumbered call a b s lent (requestNumbered call a b) (unknownCall s)))
-      (numberIn rec 2 + entryLength v x) (numberIn rec 3) (length lent) 0 0 0 Idle (Told (entryTold v x i)) refl (no-refusal-told v x i) (number-told v x i)
+      (numberIn rec 2 + entryLength v x) (numberIn rec 3) (length lent) 0 _ Idle (Told (entryTold v x i)) refl (no-refusal-told v x i) (number-told v x i)
       (ltb 0 (entryLength v x)) (entryNow rec rx msg call out) t new told′
       (rw (
         le-leb 12 call l,

@@ -136,7 +136,7 @@ module _ (rec rx msg lent out : List ℕ) (h : Stands rec (length rx) (length ms
   unfolding crossRead
   stat-tried k t new told′ e =
       let x = cameIn rec rx k in
-      done-tried rec rx msg out h o (λ s. backRead rec out s (length lent) k) (numberIn rec 2 + statSizeOf v) (numberIn rec 3 + k) (numberIn rec 4) 0 0 0 Idle
+      done-tried rec rx msg out h o (λ s. backRead rec out s (length lent) k) (numberIn rec 2 + statSizeOf v) (numberIn rec 3 + k) (numberIn rec 4) 0 _ Idle
       (Told (statTold v x)) refl (no-refusal-told v x) (number-told v x) (statCame rec rx k v) (statNow rec rx msg lent k out) t new told′
       (rw (
         range .0,

@@ -10,7 +10,7 @@ use lib.ListN.{length, getD}
 use Rattle.protocol.specs.Bytes.{pick, put}
 use Rattle.boundary.specs.Crossing.{Crossed, crossed, isRefusal, back, crossing}
 use Rattle.boundary.specs.Told.{replyNumber, replyBytes, outSize}
-use Rattle.record.specs.Fields.{registers, stepNumbers, pendings, sessionOf}
+use Rattle.record.specs.Fields.{stepNumbers, pendings, sessionOf}
 use Rattle.record.specs.Record.{size, words, wordOf, stored}
 use Rattle.record_load.proofs.Held.{held}
 use Rattle.recv_buf.specs.RecvBuf.{cursor, heldBytes}
@@ -23,9 +23,9 @@ use Rattle.session.specs.declared.Pending.{Pending}
 use Rattle.session.specs.declared.Pending.the-variants.{Idle}
 use Rattle.session.specs.declared.Reply.{Reply}
 use Rattle.session.specs.declared.Session.{Session}
-use Rattle.standing.specs.Standing.{numberIn, Stands, plainNumbers}
-use Rattle.standing.proofs.Laws.{number-in, held-of, fits-of, stored-plain}
-use Rattle.direct.specs.Direct.{heldIn, tried, done}
+use Rattle.standing.specs.Standing.{numberIn, Stands, movedNumbers}
+use Rattle.standing.proofs.Laws.{number-in, held-of, fits-of, stored-moved}
+use Rattle.direct.specs.Direct.{heldIn, tried, done, written}
 
 -- a step that is not taken
 pub not-tried : (b : Bool) (step same : Crossed) → b ≡ false → (false, same) ≡ tried b step same
@@ -111,38 +111,70 @@ put-back : (rec rx msg out new : List ℕ) (s : Session) (r : Reply) (n : ℕ) �
     → crossed new rx msg (put out 0 (replyBytes r)) n ≡ back rec out (S.out (stepped s r) rx msg)
 put-back rec rx msg out new s r n e f g = rw (e, f, g)
 
--- ---- a plain step, as the code leaves it
+-- ---- a step, as the code leaves it
 
-module _ (b : Bool) (rec : List ℕ) (head tail lent state until : ℕ) (r : Reply) (out : List ℕ) where
-  pub done-out : b ≡ false → (false, rec, out) ≡ done b rec head tail lent state until r out
+module _ (b : Bool) (rec : List ℕ) (head tail lent : ℕ) (step : List ℕ) (r : Reply) (out : List ℕ) where
+  pub done-out : b ≡ false → (false, rec, out) ≡ done b rec head tail lent step r out
   unfolding done
   done-out e = rw e
 
   pub done-in : (new told : List ℕ) (h t l : ℕ) → b ≡ true → length rec ≡ size → h ≡ head → t ≡ tail → l ≡ lent
-      → new ≡ pick (eqb (length rec) size) (words (plainNumbers rec h t l state until)) rec → told ≡ put out 0 (replyBytes r)
-      → (true, new, told) ≡ done b rec head tail lent state until r out
+      → new ≡ pick (eqb (length rec) size) (words (movedNumbers rec h t l step)) rec → told ≡ put out 0 (replyBytes r)
+      → (true, new, told) ≡ done b rec head tail lent step r out
   unfolding done
   done-in new told h t l e z eh et el p q = rw (e, p, q, eq-eqb (length rec) size z, eh, et, el)
 
+  module _ (rx new : List ℕ) where
+    pub written-out : b ≡ false → (false, rec, rx, out) ≡ written b rec rx head tail lent step new r out
+    unfolding written
+    written-out e = rw e
+
+    pub written-in : (rec′ rx′ told : List ℕ) (h t l : ℕ) → b ≡ true → length rec ≡ size → h ≡ head → t ≡ tail → l ≡ lent
+        → rec′ ≡ pick (eqb (length rec) size) (words (movedNumbers rec h t l step)) rec → rx′ ≡ new → told ≡ put out 0 (replyBytes r)
+        → (true, rec′, rx′, told) ≡ written b rec rx head tail lent step new r out
+    unfolding written
+    written-in rec′ rx′ told h t l e z eh et el p x q = rw (e, p, x, q, eq-eqb (length rec) size z, eh, et, el)
+
 -- ... and the crossing that it is
 module _ (rec rx msg out : List ℕ) (h : Stands rec (length rx) (length msg)) (o : outSize ≤ length out) (k : St → Crossed)
-    (head tail lent state until n : ℕ) (p : Pending) (r : Reply) (plain : stepNumbers p ≡ state ∷ 0 ∷ until ∷ 0 ∷ 0 ∷ registers [])
+    (head tail lent n : ℕ) (step : List ℕ) (p : Pending) (r : Reply) (numbers : stepNumbers p ≡ step)
     (fine : isRefusal r ≡ false) (number : n ≡ replyNumber r) where
-  pub done-tried : (b now t : Bool) (new told : List ℕ) → now ≡ b
-      → (b ≡ true → back rec out (S.out (stepped (at (begun (ses rec rx msg h) lent) (cursor head tail) p) r) rx msg) ≡ k (st (ses rec rx msg h) rx msg))
-      → (t, new, told) ≡ done b rec head tail lent state until r out
-      → (t, crossed new rx msg told n) ≡ tried now (crossing rec rx msg out k) (crossed rec rx msg out n)
+  -- the session's step, with the receive buffer that it leaves
+  abbrev Steps : List ℕ → Type 0
+  Steps new = back rec out (S.out (stepped (at (begun (ses rec rx msg h) lent) (cursor head tail) p) r) new msg) ≡ k (st (ses rec rx msg h) rx msg)
+
+  steps-crossed : (new : List ℕ) → Steps new
+      → crossed (words (movedNumbers rec head tail lent step)) new msg (put out 0 (replyBytes r)) n ≡ crossing rec rx msg out k
+  steps-crossed new g =
+      put-back rec new msg out (words (movedNumbers rec head tail lent step)) _ r n fine number
+      (sym (stored-moved rec (length rx) (length msg) h head tail lent step p numbers))
+      ∙ g
+      ∙ crossing-at rec rx msg h out o k
+
+  pub done-tried : (b now t : Bool) (rec′ told : List ℕ) → now ≡ b → (b ≡ true → Steps rx)
+      → (t, rec′, told) ≡ done b rec head tail lent step r out
+      → (t, crossed rec′ rx msg told n) ≡ tried now (crossing rec rx msg out k) (crossed rec rx msg out n)
   unfolding tried done
-  done-tried b now t new told e f d = ap (λ (q : Bool × List ℕ × List ℕ). (q .0, crossed (q .1) rx msg (q .2) n)) d ∙ rw e (go b f)
+  done-tried b now t rec′ told e f d = ap (λ (q : Bool × List ℕ × List ℕ). (q .0, crossed (q .1) rx msg (q .2) n)) d ∙ rw e (go b f)
     where
-      go : (q : Bool)
-          → (q ≡ true → back rec out (S.out (stepped (at (begun (ses rec rx msg h) lent) (cursor head tail) p) r) rx msg) ≡ k (st (ses rec rx msg h) rx msg))
-          → _≡_ {A = Bool × Crossed} (done q rec head tail lent state until r out .0, crossed (done q rec head tail lent state until r out .1) rx msg (done q rec head tail lent state until r out .2) n)
+      go : (q : Bool) → (q ≡ true → Steps rx)
+          → _≡_ {A = Bool × Crossed} (done q rec head tail lent step r out .0, crossed (done q rec head tail lent step r out .1) rx msg (done q rec head tail lent step r out .2) n)
           (tried q (crossing rec rx msg out k) (crossed rec rx msg out n))
-      go true g =
-          ap (λ (c : Crossed). (true, c))
-          (put-back rec rx msg out (words (plainNumbers rec head tail lent state until)) _ r n fine number
-          (sym (stored-plain rec (length rx) (length msg) h head tail lent state until p plain))
-          ∙ g refl
-          ∙ crossing-at rec rx msg h out o k)
+      go true g = ap (λ (c : Crossed). (true, c)) (steps-crossed rx (g refl))
+      go false g = refl
+
+  pub written-tried : (new : List ℕ) (b now t : Bool) (rec′ rx′ told : List ℕ) → now ≡ b → (b ≡ true → Steps new)
+      → (t, rec′, rx′, told) ≡ written b rec rx head tail lent step new r out
+      → (t, crossed rec′ rx′ msg told n) ≡ tried now (crossing rec rx msg out k) (crossed rec rx msg out n)
+  unfolding tried written
+  written-tried new b now t rec′ rx′ told e f d =
+      ap (λ (q : Bool × List ℕ × List ℕ × List ℕ). (q .0, crossed (q .1) (q .2) msg (q .3) n)) d ∙ rw e (go b f)
+    where
+      left : Bool → Bool × List ℕ × List ℕ × List ℕ
+      left q = written q rec rx head tail lent step new r out
+
+      go : (q : Bool) → (q ≡ true → Steps new)
+          → _≡_ {A = Bool × Crossed} (left q .0, crossed (left q .1) (left q .2) msg (left q .3) n)
+          (tried q (crossing rec rx msg out k) (crossed rec rx msg out n))
+      go true g = ap (λ (c : Crossed). (true, c)) (steps-crossed new (g refl))
       go false g = refl

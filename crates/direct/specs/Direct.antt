@@ -21,17 +21,23 @@ use Rattle.session.specs.declared.Reply.{Reply}
 use Rattle.session.specs.declared.Reply.the-variants.{Told}
 use Rattle.session.specs.declared.Version.{Version}
 use Rattle.session.specs.declared.Version.the-variants.{V1, V2}
-use Rattle.standing.specs.Standing.{numberIn, standing, plainNumbers}
+use Rattle.standing.specs.Standing.{numberIn, standing, movedNumbers, plainStep}
 
 -- taken, with what it comes to; or not taken, and all as it was
 unfoldable pub tried : Bool → Crossed → Crossed → Bool × Crossed
 tried true step same = (true, step)
 tried false step same = (false, same)
 
--- the record and the slice of the reply: with the session at another place and a plain step, and the reply; or as they were
-unfoldable pub done : Bool → (rec : List ℕ) → (head tail lent state until : ℕ) → Reply → (out : List ℕ) → Bool × List ℕ × List ℕ
-done true rec head tail lent state until r out = (true, words (plainNumbers rec head tail lent state until), put out 0 (replyBytes r))
-done false rec head tail lent state until r out = (false, rec, out)
+-- the record and the slice of the reply: with the session at another place and another step, and the reply; or as they were
+unfoldable pub done : Bool → (rec : List ℕ) → (head tail lent : ℕ) → (step : List ℕ) → Reply → (out : List ℕ) → Bool × List ℕ × List ℕ
+done true rec head tail lent step r out = (true, words (movedNumbers rec head tail lent step), put out 0 (replyBytes r))
+done false rec head tail lent step r out = (false, rec, out)
+
+-- the same with the receive buffer, which becomes new
+unfoldable pub written : Bool → (rec rx : List ℕ) → (head tail lent : ℕ) → (step new : List ℕ) → Reply → (out : List ℕ)
+    → Bool × List ℕ × List ℕ × List ℕ
+written true rec rx head tail lent step new r out = (true, words (movedNumbers rec head tail lent step), new, put out 0 (replyBytes r))
+written false rec rx head tail lent step new r out = (false, rec, rx, out)
 
 -- the bytes that a record's session holds
 abbrev pub heldIn : (rec rx : List ℕ) → List ℕ
@@ -58,7 +64,7 @@ entryTold V2 x at = A.EntryV2 (stat2Of (dent2At x .stat)) at (dent2At x .namelen
 -- the record and the reply, where the entry is whole
 abbrev pub entryDone : (rec rx : List ℕ) → (lent : ℕ) → Version → (out : List ℕ) → Bool × List ℕ × List ℕ
 entryDone rec rx lent v out =
-    done (ltb 0 (entryLength v (heldIn rec rx))) rec (numberIn rec 2 + entryLength v (heldIn rec rx)) (numberIn rec 3) lent 0 0
+    done (ltb 0 (entryLength v (heldIn rec rx))) rec (numberIn rec 2 + entryLength v (heldIn rec rx)) (numberIn rec 3) lent (plainStep 0 0)
     (Told (entryTold v (heldIn rec rx) (numberIn rec 2 + entrySizeOf v))) out
 
 -- calls 12 and 13
@@ -97,7 +103,7 @@ statCame rec rx k v =
 -- the record and the reply then
 abbrev pub statDone : (rec rx : List ℕ) → (k : ℕ) → Version → (out : List ℕ) → Bool × List ℕ × List ℕ
 statDone rec rx k v out =
-    done (statCame rec rx k v) rec (numberIn rec 2 + statSizeOf v) (numberIn rec 3 + k) (numberIn rec 4) 0 0 (Told (statTold v (cameIn rec rx k))) out
+    done (statCame rec rx k v) rec (numberIn rec 2 + statSizeOf v) (numberIn rec 3 + k) (numberIn rec 4) (plainStep 0 0) (Told (statTold v (cameIn rec rx k))) out
 
 -- states 13 and 14
 abbrev pub statVersion : ℕ → Version

@@ -33,7 +33,7 @@ use Rattle.session.specs.declared.Version.{Version}
 use Rattle.session.specs.declared.Version.the-variants.{V1, V2}
 use Rattle.session.specs.declared.Want.{Want}
 use Rattle.session.specs.declared.Want.the-variants as W
-use Rattle.standing.specs.Standing.{numberIn, Stands}
+use Rattle.standing.specs.Standing.{numberIn, Stands, plainStep}
 use Rattle.standing.proofs.Laws.{number-in, fits-of, stands-in}
 use Rattle.direct_request.specs.Asking.{headerShort, headerDone, sentNow}
 
@@ -110,8 +110,8 @@ module _ (rec rx msg lent out : List ℕ) (h : Stands rec (length rx) (length ms
       → (t, crossed new rx msg told 1) ≡ tried (sentNow rec rx msg lent out) (crossWrote rec rx msg lent out) (crossed rec rx msg out 1)
   unfolding crossWrote replyNumber
   header-tried t new told e =
-      done-tried rec rx msg out h o (λ s. back rec out (reportWrote s lent)) (numberIn rec 2) (numberIn rec 3) (numberIn rec 4) (numberIn rec 7 + 12)
-      (numberIn rec 2 + 8) 1 (Reading (Header (W.Stat v)) (numberIn rec 2 + 8) false) (R.Read (numberIn rec 3) (length rx - numberIn rec 3))
+      done-tried rec rx msg out h o (λ s. back rec out (reportWrote s lent)) (numberIn rec 2) (numberIn rec 3) (numberIn rec 4) 1
+      (plainStep (numberIn rec 7 + 12) (numberIn rec 2 + 8)) (Reading (Header (W.Stat v)) (numberIn rec 2 + 8) false) (R.Read (numberIn rec 3) (length rx - numberIn rec 3))
       (rw (state, awaits-state v)) refl refl (headerShort rec rx) (sentNow rec rx msg lent out) t new told
       (rw (
         range .0,

@@ -9,7 +9,7 @@ use Rattle.boundary.specs.Told.{outSize}
 use Rattle.direct.specs.Direct.{done}
 use Rattle.record.specs.Record.{loaded}
 use Rattle.session.specs.declared.Reply.the-variants as R
-use Rattle.standing.specs.Standing.{numberIn, standing}
+use Rattle.standing.specs.Standing.{numberIn, standing, plainStep}
 
 -- ---- a stat's message is out
 
@@ -20,7 +20,7 @@ headerShort rec rx = ltb (numberIn rec 3 - numberIn rec 2) 8 && ltb (numberIn re
 -- the record and the reply then
 abbrev pub headerDone : (rec rx : List ℕ) → (state : ℕ) → (out : List ℕ) → Bool × List ℕ × List ℕ
 headerDone rec rx state out =
-    done (headerShort rec rx) rec (numberIn rec 2) (numberIn rec 3) (numberIn rec 4) state (numberIn rec 2 + 8)
+    done (headerShort rec rx) rec (numberIn rec 2) (numberIn rec 3) (numberIn rec 4) (plainStep state (numberIn rec 2 + 8))
     (R.Read (numberIn rec 3) (length rx - numberIn rec 3)) out
 
 -- states 1 and 2, the message out whole

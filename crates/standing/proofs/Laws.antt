@@ -1,4 +1,4 @@
--- A record whose session stands, by its numbers; and its session, stored with a plain step. Assumes nothing.
+-- A record whose session stands, by its numbers; and its session, stored with another step. Assumes nothing.
 use mathlib.Core.Bool.{Bool, true, false, not, _&&_, and-eq-true-iff, true≢false}
 use mathlib.Core.List.{List, [], _∷_}
 use mathlib.Core.Option.{Option, none, some}
@@ -26,7 +26,7 @@ use Rattle.session.specs.Core.{featuresFrom}
 use Rattle.session.specs.State.{at, begun, Fits}
 use Rattle.session.specs.declared.Pending.{Pending}
 use Rattle.session.specs.declared.Session.{Session}
-use Rattle.standing.specs.Standing.{numberIn, standing, Stands, plainNumbers}
+use Rattle.standing.specs.Standing.{numberIn, standing, Stands, movedNumbers}
 
 -- a number that the code reads, past the last too
 pub number-read : (rec : List ℕ) (i : ℕ) → length rec ≡ size → whole 8 0 (u64At 0) rec (8 * i) ≡ numberIn rec i
@@ -163,11 +163,11 @@ bits-forth (suc k) n h =
     rw (one-forth (n % 2) (omega arith), bits-forth k (n / 2) (omega arith)) (omega arith)
 
 module _ (rec : List ℕ) (x m : ℕ) (h : Stands rec x m) where
-  -- the session at another place, with a plain step
-  pub stored-plain : (head tail lent state until : ℕ) (p : Pending) → stepNumbers p ≡ state ∷ 0 ∷ until ∷ 0 ∷ 0 ∷ registers []
-      → stored (at (begun (sessionOf (wordOf rec)) lent) (cursor head tail) p) ≡ words (plainNumbers rec head tail lent state until)
+  -- the session at another place, with another step
+  pub stored-moved : (head tail lent : ℕ) (step : List ℕ) (p : Pending) → stepNumbers p ≡ step
+      → stored (at (begun (sessionOf (wordOf rec)) lent) (cursor head tail) p) ≡ words (movedNumbers rec head tail lent step)
   unfolding stored fields sessionOf
-  stored-plain head tail lent state until p e =
+  stored-moved head tail lent step p e =
       let n : (i : ℕ) → numberIn rec i ≡ wordOf rec i = λ i. number-in rec i (h .sized) in
       let f : wordOf rec 5 < 2 ^ 7 = omega (arith, n 5) in
       let b : wordOf rec 6 < 2 = omega (arith, n 6) in

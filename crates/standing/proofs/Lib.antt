@@ -1,2 +1,2 @@
--- `Laws`: when a record stands, by its numbers, and what is stored of a plain step.
+-- `Laws`: when a record stands, by its numbers, and what is stored of a step.
 pub mod Laws

@@ -36,7 +36,14 @@ pub record Stands (rec : List ℕ) (x m : ℕ) : Type 0 where
   pub aside : numberIn rec 0 ≤ numberIn rec 1
   pub msg : m ≡ numberIn rec 1
 
--- the numbers of its session at another place, with a pending step that keeps a state and what it awaits, and nothing else
-abbrev pub plainNumbers : List ℕ → (head tail lent state until : ℕ) → List ℕ
-plainNumbers rec head tail lent state until =
-    numberIn rec 0 ∷ numberIn rec 1 ∷ head ∷ tail ∷ lent ∷ numberIn rec 5 ∷ numberIn rec 6 ∷ state ∷ 0 ∷ until ∷ 0 ∷ 0 ∷ registers []
+-- the numbers of its session at another place, with so many bytes lent and a pending step of these numbers
+abbrev pub movedNumbers : List ℕ → (head tail lent : ℕ) → List ℕ → List ℕ
+movedNumbers rec head tail lent step = numberIn rec 0 ∷ numberIn rec 1 ∷ head ∷ tail ∷ lent ∷ numberIn rec 5 ∷ numberIn rec 6 ∷ step
+
+-- the numbers of a pending step that keeps at most one register
+abbrev pub stepOf : (state flag until from piece register : ℕ) → List ℕ
+stepOf state flag until from piece register = state ∷ flag ∷ until ∷ from ∷ piece ∷ registers (register ∷ [])
+
+-- ... that keeps a state and what it awaits, and nothing else
+abbrev pub plainStep : (state until : ℕ) → List ℕ
+plainStep state until = stepOf state 0 until 0 0 0

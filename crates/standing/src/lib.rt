@@ -4,7 +4,7 @@ ghost use lib.Dec.{eqb};
 ghost use lib.ListN.{length};
 ghost use Rattle.protocol.specs.Bytes.{pick};
 ghost use Rattle.record.specs.Record.{size, words, loaded};
-ghost use Rattle.standing.specs.Standing.{numberIn, standing, plainNumbers};
+ghost use Rattle.standing.specs.Standing.{numberIn, standing, movedNumbers, stepOf, plainStep};
 use format_number::u64_at;
 use record::SIZE;
 use record_store::put_four;
@@ -56,17 +56,21 @@ pub fn stands(rec: &[u8], rx: usize, msg: usize) -> bool
     false
 }
 
-// The session at another place of its buffer, with so many bytes lent and a pending step that keeps no more than a state and what it
-// awaits, into its record; a record of another length is left alone.
-pub fn store_plain(
+// The session at another place of its buffer, with so many bytes lent and a pending step of these numbers, into its record; a record of
+// another length is left alone.
+pub fn store_step(
     rec: &mut [u8],
     head: usize,
     tail: usize,
     lent: usize,
     state: usize,
+    flag: usize,
     until: usize,
+    from: usize,
+    piece: usize,
+    register: usize,
 )
-    ensures { λ _. ⌜ now (rec .exit) ≡ pick (eqb (length (now (rec .entry))) size) (words (plainNumbers (now (rec .entry)) head tail lent state until)) (now (rec .entry)) ⌝ }
+    ensures { λ _. ⌜ now (rec .exit) ≡ pick (eqb (length (now (rec .entry))) size) (words (movedNumbers (now (rec .entry)) head tail lent (stepOf state flag until from piece register))) (now (rec .entry)) ⌝ }
 {
     if rec.len() == SIZE {
         let capacity = number(rec, 0) as u64;
@@ -75,9 +79,30 @@ pub fn store_plain(
         let ended = number(rec, 6) as u64;
         put_four(rec, 0, capacity, message, head as u64, tail as u64);
         put_four(rec, 32, lent as u64, features, ended, state as u64);
-        put_four(rec, 64, 0, until as u64, 0, 0);
-        put_four(rec, 96, 0, 0, 0, 0);
+        put_four(
+            rec,
+            64,
+            flag as u64,
+            until as u64,
+            from as u64,
+            piece as u64,
+        );
+        put_four(rec, 96, register as u64, 0, 0, 0);
         put_four(rec, 128, 0, 0, 0, 0);
         put_four(rec, 160, 0, 0, 0, 0);
     }
+}
+
+// The same, with a step that keeps no more than a state and what it awaits.
+pub fn store_plain(
+    rec: &mut [u8],
+    head: usize,
+    tail: usize,
+    lent: usize,
+    state: usize,
+    until: usize,
+)
+    ensures { λ _. ⌜ now (rec .exit) ≡ pick (eqb (length (now (rec .entry))) size) (words (movedNumbers (now (rec .entry)) head tail lent (plainStep state until))) (now (rec .entry)) ⌝ }
+{
+    store_step(rec, head, tail, lent, state, 0, until, 0, 0, 0);
 }

@@ -10,7 +10,7 @@ use lib.ListN.{take, drop}
 use Rattle.phases.proofs.Turns.{entry-size-small}
 use Rattle.session.specs.Phases.{entrySizeOf}
 use Rattle.session.specs.declared.Reply.the-variants.{Told}
-use Rattle.standing.specs.Standing.{numberIn}
+use Rattle.standing.specs.Standing.{numberIn, plainStep}
 use Rattle.direct.specs.Direct.{heldIn, entryLength, entryTold}
 use Rattle.direct.proofs.Entries.{held-part, entry-within}
 use Rattle.direct.proofs.Taken.{done-out, done-in}
@@ -42,7 +42,7 @@ nothing : tie.Need-returns
 nothing c =
     let a = c .before .before .before .before .before .before .before .before .before .before .args in
     let n = entryLength (a .v) (heldIn (now (a .rec)) (now (a .rx))) in
-    done-out (ltb 0 n) (now (a .rec)) _ _ _ _ _ _ (now (a .out)) (le-ltb 0 n (omega (arith, length-is (c .before))))
+    done-out (ltb 0 n) (now (a .rec)) _ _ _ _ _ (now (a .out)) (le-ltb 0 n (omega (arith, length-is (c .before))))
 
 told : tie.Need-returns-2
 told c =
@@ -52,7 +52,7 @@ told c =
     let n = entryLength (a .v) x in
     let e = length-is (c .before .before .before .before .before .before .before .before .before .before) in
     let z : c .before .before .before .before .before .before .before .before .before .before .entry-len .result ≡ 0 → ⊥ = c .before .before .before .before .before .before .before .before .before .if1 .left in
-    done-in (ltb 0 n) rec (numberIn rec 2 + n) (numberIn rec 3) (a .lent) 0 0 (Told (entryTold (a .v) x (numberIn rec 2 + entrySizeOf (a .v)))) (now (a .out)) _ _ _ _ _
+    done-in (ltb 0 n) rec (numberIn rec 2 + n) (numberIn rec 3) (a .lent) (plainStep 0 0) (Told (entryTold (a .v) x (numberIn rec 2 + entrySizeOf (a .v)))) (now (a .out)) _ _ _ _ _
     (lt-ltb 0 n (omega arith)) (c .before .before .before .before .before .before .before .before .before .before .before .before .before .before .before .before .before .before .before .pre .0) (omega (arith, c .before .before .before .before .before .before .before .before .before .before .before .before .before .before .number .ensures)) (c .before .before .before .before .before .before .before .before .before .before .before .before .number2 .ensures) refl (c .before .before .store-plain .ensures)
     (c .before .before .before .before .before .before .tell-entry .ensures ∙ rw (held (c .before .before .before .before .before .before .before .before .before .before), c .before .before .before .before .before .before .before .before .before .before .before .before .before .before .number .ensures, c .before .before .before .before .before .before .before .before .entry-size .ensures))
 

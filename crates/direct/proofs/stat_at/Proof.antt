@@ -10,7 +10,7 @@ use lib.ListN.{length, take, drop}
 use Rattle.phases.proofs.Turns.{stat-size-small}
 use Rattle.session.specs.Phases.{statSizeOf}
 use Rattle.session.specs.declared.Reply.the-variants.{Told}
-use Rattle.standing.specs.Standing.{numberIn}
+use Rattle.standing.specs.Standing.{numberIn, plainStep}
 use Rattle.direct.specs.Direct.{cameIn, isStat, statTold, statCame}
 use Rattle.direct.proofs.Entries.{held-part}
 use Rattle.direct.proofs.Taken.{done-out, done-in}
@@ -28,18 +28,18 @@ held c =
 nothing : tie.Need-returns
 nothing c =
     let a = c .before .before .before .before .before .before .before .before .args in
-    done-out (statCame (now (a .rec)) (now (a .rx)) (a .count) (a .v)) (now (a .rec)) _ _ _ _ _ _ (now (a .out)) (rw (le-ltb 0 (a .count) (omega arith)))
+    done-out (statCame (now (a .rec)) (now (a .rx)) (a .count) (a .v)) (now (a .rec)) _ _ _ _ _ (now (a .out)) (rw (le-ltb 0 (a .count) (omega arith)))
 
 past : tie.Need-returns-2
 past c =
     let a = c .before .before .before .before .before .before .before .before .before .args in
-    done-out (statCame (now (a .rec)) (now (a .rx)) (a .count) (a .v)) (now (a .rec)) _ _ _ _ _ _ (now (a .out))
+    done-out (statCame (now (a .rec)) (now (a .rx)) (a .count) (a .v)) (now (a .rec)) _ _ _ _ _ (now (a .out))
     (rw (lt-ltb 0 (a .count) (omega arith), lt-leb (a .count) (length (now (a .rx)) - numberIn (now (a .rec)) 3) (omega arith)))
 
 unmet : tie.Need-returns-3
 unmet c =
     let a = c .before .before .before .before .before .before .before .before .before .before .before .before .args in
-    done-out (statCame (now (a .rec)) (now (a .rx)) (a .count) (a .v)) (now (a .rec)) _ _ _ _ _ _ (now (a .out))
+    done-out (statCame (now (a .rec)) (now (a .rx)) (a .count) (a .v)) (now (a .rec)) _ _ _ _ _ (now (a .out))
     (rw (
       lt-ltb 0 (a .count) (omega arith),
       le-leb (a .count) (length (now (a .rx)) - numberIn (now (a .rec)) 3) (omega arith),
@@ -58,7 +58,7 @@ came c =
     (sym (c .is-stat .ensures ∙ ap (isStat (a .v)) (held c)))
 
 other : tie.Need-returns-5
-other c = let a = c .before .before .before .before .before .before .before .before .before .before .before .before .before .before .before .args in done-out (statCame (now (a .rec)) (now (a .rx)) (a .count) (a .v)) (now (a .rec)) _ _ _ _ _ _ (now (a .out)) (came (c .before) ∙ c .if4 .left)
+other c = let a = c .before .before .before .before .before .before .before .before .before .before .before .before .before .before .before .args in done-out (statCame (now (a .rec)) (now (a .rx)) (a .count) (a .v)) (now (a .rec)) _ _ _ _ _ (now (a .out)) (came (c .before) ∙ c .if4 .left)
 
 there : (c : tie.Then4) → Replied (c .before .before .before .before .before .before .before .before .before .before .before .before .before .before .before .args .v) (take (c .before .before .before .before .before .before .before .before .number2 .result + c .before .before .before .before .before .before .before .before .before .before .before .before .before .before .before .args .count - c .before .before .before .before .before .before .before .before .before .before .number .result) (drop (c .before .before .before .before .before .before .before .before .before .before .number .result) (now (c .before .before .before .before .before .before .before .before .before .before .before .before .before .before .before .args .rx))))
 there c = replied-of (c .before .before .before .before .before .before .before .before .before .before .before .before .before .before .before .args .v) (take (c .before .before .before .before .before .before .before .before .number2 .result + c .before .before .before .before .before .before .before .before .before .before .before .before .before .before .before .args .count - c .before .before .before .before .before .before .before .before .before .before .number .result) (drop (c .before .before .before .before .before .before .before .before .before .before .number .result) (now (c .before .before .before .before .before .before .before .before .before .before .before .before .before .before .before .args .rx)))) (sym (c .before .is-stat .ensures) ∙ c .if4 .taken)
@@ -68,7 +68,7 @@ told c =
     let a = c .before .before .before .before .before .before .before .before .before .before .before .before .before .before .before .before .before .before .before .before .before .before .before .before .before .before .args in
     let rec = now (a .rec) in
     let x = cameIn rec (now (a .rx)) (a .count) in
-    done-in (statCame rec (now (a .rx)) (a .count) (a .v)) rec (numberIn rec 2 + statSizeOf (a .v)) (numberIn rec 3 + a .count) (numberIn rec 4) 0 0 (Told (statTold (a .v) x)) (now (a .out)) _ _ _ _ _
+    done-in (statCame rec (now (a .rx)) (a .count) (a .v)) rec (numberIn rec 2 + statSizeOf (a .v)) (numberIn rec 3 + a .count) (numberIn rec 4) (plainStep 0 0) (Told (statTold (a .v) x)) (now (a .out)) _ _ _ _ _
     (came (c .before .before .before .before .before .before .before .before .before .before .before .before) ∙ c .before .before .before .before .before .before .before .before .before .before .before .if4 .taken) (c .before .before .before .before .before .before .before .before .before .before .before .before .before .before .before .before .before .before .before .before .before .before .before .before .before .before .pre .0) (omega (arith, c .before .before .before .before .before .before .before .before .before .before .before .before .before .before .before .before .before .before .before .before .before .number .ensures, c .before .before .before .before .before .before .before .before .stat-size .ensures)) (omega (arith, c .before .before .before .before .before .before .before .before .before .before .before .before .before .before .before .before .before .before .before .number2 .ensures)) (c .before .before .before .before .before .before .before .before .before .number4 .ensures)
     (c .before .before .store-plain .ensures) (c .before .before .before .before .before .before .tell-stat .ensures ∙ rw (held (c .before .before .before .before .before .before .before .before .before .before .before .before)))
 

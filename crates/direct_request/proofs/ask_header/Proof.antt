@@ -9,7 +9,7 @@ use lib.ListN.{length}
 use Rattle.boundary.specs.Told.{replyBytes}
 use Rattle.direct.proofs.Taken.{done-out, done-in}
 use Rattle.session.specs.declared.Reply.the-variants as R
-use Rattle.standing.specs.Standing.{numberIn}
+use Rattle.standing.specs.Standing.{numberIn, plainStep}
 use Rattle.direct_request.specs.Asking.{headerShort}
 use Rattle.direct_request.proofs.ask_header.Statement.{statement}
 use Rattle.direct_request.proofs.ask_header.Tie as tie
@@ -18,7 +18,7 @@ held : tie.Need-returns
 held c =
     let a = c .before .before .before .before .before .before .before .before .args in
     let rec = now (a .rec) in
-    done-out (headerShort rec (now (a .rx))) rec _ _ _ _ _ _ (now (a .out)) (rw (le-ltb (numberIn rec 3 - numberIn rec 2) 8 (omega arith)))
+    done-out (headerShort rec (now (a .rx))) rec _ _ _ _ _ (now (a .out)) (rw (le-ltb (numberIn rec 3 - numberIn rec 2) 8 (omega arith)))
 
 asks : tie.Need-returns-2
 unfolding replyBytes
@@ -27,7 +27,7 @@ asks c =
     let rec = now (a .rec) in
     let h = c .before .before .before .before .before .before .before .before .before .before .before .before .before .before .number .ensures in
     let t = c .before .before .before .before .before .before .before .before .before .before .before .before .number2 .ensures in
-    done-in (headerShort rec (now (a .rx))) rec (numberIn rec 2) (numberIn rec 3) (numberIn rec 4) (a .state) (numberIn rec 2 + 8)
+    done-in (headerShort rec (now (a .rx))) rec (numberIn rec 2) (numberIn rec 3) (numberIn rec 4) (plainStep (a .state) (numberIn rec 2 + 8))
     (R.Read (numberIn rec 3) (length (now (a .rx)) - numberIn rec 3)) (now (a .out)) _ _ _ _ _
     (rw (lt-ltb (numberIn rec 3 - numberIn rec 2) 8 (omega arith), lt-ltb (numberIn rec 3) (length (now (a .rx))) (omega arith))) (c .before .before .before .before .before .before .before .before .before .before .before .before .before .before .before .before .before .before .before .pre .0) h t (c .before .before .before .before .before .before .before .before .number3 .ensures)
     (c .before .before .store-plain .ensures ∙ rw h) (c .before .before .before .before .before .before .put-two .ensures ∙ rw t)
@@ -36,7 +36,7 @@ full : tie.Need-returns-3
 full c =
     let a = c .before .before .before .before .before .before .before .before .before .args in
     let rec = now (a .rec) in
-    done-out (headerShort rec (now (a .rx))) rec _ _ _ _ _ _ (now (a .out))
+    done-out (headerShort rec (now (a .rx))) rec _ _ _ _ _ (now (a .out))
     (rw (lt-ltb (numberIn rec 3 - numberIn rec 2) 8 (omega arith), le-ltb (numberIn rec 3) (length (now (a .rx))) (omega arith)))
 
 pub ask-header-spec : {M : Type 1} → statement M
