@@ -1,4 +1,3 @@
--- `Crossings`: the cases of a crossing. `Opening`: those of opening into a record. `Reading`: the two ways of a read.
-mod Crossings
+-- `Opening`: the cases of opening into a record. `Reading`: the two ways of a read.
 mod Opening
 mod Reading

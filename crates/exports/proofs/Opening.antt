@@ -16,7 +16,7 @@ use Rattle.record.specs.Record.{size, stored}
 use Rattle.session.specs.Calls.{fresh, openRefusal}
 use Rattle.session.specs.Core.{featuresFrom}
 use Rattle.session.specs.declared.Session.{Session}
-use Rattle.exports.specs.Crossed.{openCrossed}
+use Rattle.exports.specs.Opened.{openCrossed}
 
 -- what an opening comes to in a record
 abbrev into : List ℕ → Opened → OpenCrossed

@@ -20,8 +20,8 @@ use Rattle.session.specs.declared.Reply.the-variants as R
 use Rattle.session.specs.declared.Session.{Session}
 use Rattle.short_read.proofs.Tails.{Short, short-of, long-of}
 use Rattle.short_read.specs.Short.{shortIn}
-use Rattle.exports.specs.Crossed.{readAnew}
-use Rattle.exports.proofs.Crossings.{cross-short}
+use Rattle.anew.specs.Anew.{readAnew}
+use Rattle.anew.proofs.Crossings.{cross-short}
 
 -- t is the tail that the record's numbers say
 module _ (rec rx msg lent out : List ℕ) (k t : ℕ) (e : t ≡ shortIn (loaded rec) (length rx) (length msg) (length lent) k) where

@@ -1,24 +1,20 @@
 // The exported functions: a session in a lent record, both buffers, what is lent, and a slice for the reply.
 ghost use mathlib.Core.Path.{_≡_};
 ghost use Rattle.boundary.specs.Crossing.{crossed, crossOpen, crossStart, crossRead, crossWrote, crossFault};
-ghost use Rattle.exports.specs.Crossed.{openCrossed, readAnew};
+ghost use Rattle.exports.specs.Opened.{openCrossed};
+use anew::fault_anew;
+use anew::read_anew;
+use anew::start_anew;
+use anew::wrote_anew;
 use calls::Opened;
 use calls::open;
 use direct::entry;
 use direct::stat;
 use direct_request::sent;
-use numbered::begin;
-use numbered::fault_of;
-use put_back::give_back;
 use record::SIZE;
-use record_load::Loaded;
-use record_load::load;
 use record_store::store;
 use record_store::store_tail;
 use reply::put_two;
-use reports::fault;
-use reports::read;
-use reports::wrote;
 use short_read::short_tail;
 
 // The longest reply: a slice shorter than it is turned away.
@@ -28,9 +24,6 @@ const REPLY: usize = 112;
 const TOLD: u32 = 0;
 
 const READ: u32 = 1;
-
-// 3, told: that slice, or a record that holds no session.
-const AWAY: u32 = 768;
 
 // Opens a session in the record: 0, or 1 or 2, or 3 for a record of another length; a refusal leaves it alone.
 #[no_mangle]
@@ -46,32 +39,6 @@ pub extern "C" fn yuglasno_open(rec: &mut [u8], banner: &[u8], rx: usize, msg: u
                 return 0;
             }
             3
-        }
-    }
-}
-
-// Starts a call the long way: its session is loaded, takes its first step and is stored.
-fn start_anew(
-    rec: &mut [u8],
-    rx: &mut [u8],
-    msg: &mut [u8],
-    lent: &[u8],
-    call: u32,
-    a: u32,
-    b: u32,
-    out: &mut [u8],
-) -> u32
-    ensures { λ r. ⌜ crossed (now (rec .exit)) (now (rx .exit)) (now (msg .exit)) (now (out .exit)) r ≡ crossStart (now (rec .entry)) (now (rx .entry)) (now (msg .entry)) (now (lent .entry)) call a b (now (out .entry)) ⌝ }
-{
-    if out.len() < REPLY {
-        return AWAY;
-    }
-    let loaded = load(rec);
-    match loaded {
-        Loaded::Unknown => AWAY,
-        Loaded::Session(s) => {
-            let stepped = begin(s, rx, msg, call, a, b, lent);
-            give_back(stepped, rec, out)
         }
     }
 }
@@ -96,30 +63,6 @@ pub extern "C" fn yuglasno_start(
     start_anew(rec, rx, msg, lent, call, a, b, out)
 }
 
-// count bytes were read into the window: the long way.
-fn read_in(
-    rec: &mut [u8],
-    rx: &mut [u8],
-    msg: &mut [u8],
-    lent: &[u8],
-    count: usize,
-    out: &mut [u8],
-) -> u32
-    ensures { λ r. ⌜ crossed (now (rec .exit)) (now (rx .exit)) (now (msg .exit)) (now (out .exit)) r ≡ readAnew (now (rec .entry)) (now (rx .entry)) (now (msg .entry)) (now (lent .entry)) count (now (out .entry)) ⌝ }
-{
-    if out.len() < REPLY {
-        return AWAY;
-    }
-    let loaded = load(rec);
-    match loaded {
-        Loaded::Unknown => AWAY,
-        Loaded::Session(s) => {
-            let stepped = read(s, rx, msg, lent.len(), count);
-            give_back(stepped, rec, out)
-        }
-    }
-}
-
 // The same. Where the bytes leave the need short, only tail is loaded and stored.
 fn read_short(
     rec: &mut [u8],
@@ -133,10 +76,10 @@ fn read_short(
 {
     let tail = short_tail(rec, rx.len(), msg.len(), lent.len(), count);
     if tail == 0 {
-        return read_in(rec, rx, msg, lent, count, out);
+        return read_anew(rec, rx, msg, lent, count, out);
     }
     if out.len() < REPLY {
-        return read_in(rec, rx, msg, lent, count, out);
+        return read_anew(rec, rx, msg, lent, count, out);
     }
     let len = rx.len() - tail;
     store_tail(rec, tail);
@@ -160,23 +103,6 @@ pub extern "C" fn yuglasno_read(
         return TOLD;
     }
     read_short(rec, rx, msg, lent, count, out)
-}
-
-// The write or the close that was asked for was accepted: the long way.
-fn wrote_anew(rec: &mut [u8], rx: &mut [u8], msg: &mut [u8], lent: &[u8], out: &mut [u8]) -> u32
-    ensures { λ r. ⌜ crossed (now (rec .exit)) (now (rx .exit)) (now (msg .exit)) (now (out .exit)) r ≡ crossWrote (now (rec .entry)) (now (rx .entry)) (now (msg .entry)) (now (lent .entry)) (now (out .entry)) ⌝ }
-{
-    if out.len() < REPLY {
-        return AWAY;
-    }
-    let loaded = load(rec);
-    match loaded {
-        Loaded::Unknown => AWAY,
-        Loaded::Session(s) => {
-            let stepped = wrote(s, rx, msg, lent);
-            give_back(stepped, rec, out)
-        }
-    }
 }
 
 // The same. A stat whose message is out awaits its reply the short way.
@@ -209,16 +135,5 @@ pub extern "C" fn yuglasno_fault(
 ) -> u32
     ensures { λ r. ⌜ crossed (now (rec .exit)) (now (rx .exit)) (now (msg .exit)) (now (out .exit)) r ≡ crossFault (now (rec .entry)) (now (rx .entry)) (now (msg .entry)) (now (lent .entry)) kind code (now (out .entry)) ⌝ }
 {
-    if out.len() < REPLY {
-        return AWAY;
-    }
-    let loaded = load(rec);
-    match loaded {
-        Loaded::Unknown => AWAY,
-        Loaded::Session(s) => {
-            let e = fault_of(kind, code);
-            let stepped = fault(s, rx, msg, lent.len(), e);
-            give_back(stepped, rec, out)
-        }
-    }
+    fault_anew(rec, rx, msg, lent, kind, code, out)
 }

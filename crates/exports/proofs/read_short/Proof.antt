@@ -8,10 +8,10 @@ use Rattle.exports.proofs.read_short.Statement.{statement}
 use Rattle.exports.proofs.read_short.Tie as tie
 
 long : tie.Need-returns
-long c = let a = c .before .before .before .before .before .before .before .before .before .before .before .before .before .before .before .before .before .before .before .before .before .args in c .before .before .before .before .before .before .before .before .read-in .ensures ∙ read-anew (now (a .rec)) (now (a .rx)) (now (a .msg)) (now (a .lent)) (now (a .out)) (a .count) _ (c .before .before .before .before .before .before .before .before .before .before .before .before .before .before .short-tail .ensures) (c .before .before .before .before .before .before .before .before .before .before .before .before .before .if1 .taken)
+long c = let a = c .before .before .before .before .before .before .before .before .before .before .before .before .before .before .before .before .before .before .before .before .before .args in c .before .before .before .before .before .before .before .before .read-anew .ensures ∙ read-anew (now (a .rec)) (now (a .rx)) (now (a .msg)) (now (a .lent)) (now (a .out)) (a .count) _ (c .before .before .before .before .before .before .before .before .before .before .before .before .before .before .short-tail .ensures) (c .before .before .before .before .before .before .before .before .before .before .before .before .before .if1 .taken)
 
 away : tie.Need-returns-2
-away c = let a = c .before .before .before .before .before .before .before .before .before .before .before .before .before .before .before .before .before .before .before .before .before .before .args in c .before .before .before .before .before .before .before .before .read-in2 .ensures ∙ read-away (now (a .rec)) (now (a .rx)) (now (a .msg)) (now (a .lent)) (now (a .out)) (a .count) (c .before .before .before .before .before .before .before .before .before .before .before .before .before .if2 .taken)
+away c = let a = c .before .before .before .before .before .before .before .before .before .before .before .before .before .before .before .before .before .before .before .before .before .before .args in c .before .before .before .before .before .before .before .before .read-anew2 .ensures ∙ read-away (now (a .rec)) (now (a .rx)) (now (a .msg)) (now (a .lent)) (now (a .out)) (a .count) (c .before .before .before .before .before .before .before .before .before .before .before .before .before .if2 .taken)
 
 room : tie.Need-sub-len
 room c = let a = c .before .before .before .before .before .before .before .before .before .args in short-room (now (a .rec)) (now (a .rx)) (now (a .msg)) (now (a .lent)) (now (a .out)) (a .count) _ (c .before .before .short-tail .ensures) (omega arith)

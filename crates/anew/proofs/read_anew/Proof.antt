@@ -1,12 +1,12 @@
--- `exports::read_in` meets its contract. Assumes nothing.
+-- `anew::read_anew` meets its contract. Assumes nothing.
 use borrow.Author.Needs.{needs}
 use denote.Ref.{now}
 use lib.ListN.{length}
 use Rattle.session.specs.Reports.{reportRead}
-use Rattle.exports.specs.Crossed.{readAnew}
-use Rattle.exports.proofs.Crossings.{cross-short, cross-unknown, cross-back}
-use Rattle.exports.proofs.read_in.Statement.{statement}
-use Rattle.exports.proofs.read_in.Tie as tie
+use Rattle.anew.specs.Anew.{readAnew}
+use Rattle.anew.proofs.Crossings.{cross-short, cross-unknown, cross-back}
+use Rattle.anew.proofs.read_anew.Statement.{statement}
+use Rattle.anew.proofs.read_anew.Tie as tie
 
 short : tie.Need-returns
 unfolding readAnew
@@ -25,8 +25,8 @@ stepped c =
     cross-back (now (a .rec)) (now (a .rx)) (now (a .msg)) (now (a .out)) (λ s. reportRead s (length (now (a .lent))) (a .count)) (c .before .before .before .before .before .before .before .before .before .before .before .before .before .before .before .before .before .before .before .if1 .left)
     _ _ (c .before .before .before .before .before .before .before .before .before .before .before .before .before .before .before .loaded .given .1) (c .before .before .before .before .before .before .before .before .before .before .before .before .before .before .before .before .before .load .ensures) _ (c .before .before .before .before .before .before .before .before .before .before .before .read .ensures) _ (c .before .before .before .before .give-back .ensures _ _)
 
-pub read-in-spec : {M : Type 1} → statement M
-read-in-spec =
+pub read-anew-spec : {M : Type 1} → statement M
+read-anew-spec =
     tie.close
     (tie.spec
     short

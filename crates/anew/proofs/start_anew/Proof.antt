@@ -1,10 +1,10 @@
--- `exports::start_anew` meets its contract. Assumes nothing.
+-- `anew::start_anew` meets its contract. Assumes nothing.
 use borrow.Author.Needs.{needs}
 use denote.Ref.{now}
 use Rattle.boundary.specs.Crossing.{requestNumbered, callNumbered, unknownCall, crossStart}
-use Rattle.exports.proofs.Crossings.{cross-short, cross-unknown, cross-back}
-use Rattle.exports.proofs.start_anew.Statement.{statement}
-use Rattle.exports.proofs.start_anew.Tie as tie
+use Rattle.anew.proofs.Crossings.{cross-short, cross-unknown, cross-back}
+use Rattle.anew.proofs.start_anew.Statement.{statement}
+use Rattle.anew.proofs.start_anew.Tie as tie
 
 short : tie.Need-returns
 unfolding crossStart

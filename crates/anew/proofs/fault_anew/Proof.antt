@@ -1,12 +1,12 @@
--- `exports::yuglasno_fault` meets its contract. Assumes nothing.
+-- `anew::fault_anew` meets its contract. Assumes nothing.
 use borrow.Author.Needs.{needs}
 use denote.Ref.{now}
 use Rattle.boundary.specs.Crossing.{faultNumbered, crossFault}
 use lib.ListN.{length}
 use Rattle.session.specs.Reports.{reportFault}
-use Rattle.exports.proofs.Crossings.{cross-short, cross-unknown, cross-back, fault-eq}
-use Rattle.exports.proofs.yuglasno_fault.Statement.{statement}
-use Rattle.exports.proofs.yuglasno_fault.Tie as tie
+use Rattle.anew.proofs.Crossings.{cross-short, cross-unknown, cross-back, fault-eq}
+use Rattle.anew.proofs.fault_anew.Statement.{statement}
+use Rattle.anew.proofs.fault_anew.Tie as tie
 
 short : tie.Need-returns
 unfolding crossFault
@@ -25,8 +25,8 @@ stepped c =
     cross-back (now (a .rec)) (now (a .rx)) (now (a .msg)) (now (a .out)) (λ s. reportFault s (length (now (a .lent))) (faultNumbered (a .kind) (a .code))) (c .before .before .before .before .before .before .before .before .before .before .before .before .before .before .before .before .before .before .before .before .if1 .left)
     _ _ (c .before .before .before .before .before .before .before .before .before .before .before .before .before .before .before .before .loaded .given .1) (c .before .before .before .before .before .before .before .before .before .before .before .before .before .before .before .before .before .before .load .ensures) _ (fault-eq _ _ _ _ _ (c .before .before .before .before .before .before .before .before .before .before .before .fault .ensures) (c .before .before .before .before .before .before .before .before .before .before .before .before .before .before .fault-of .ensures)) _ (c .before .before .before .before .give-back .ensures _ _)
 
-pub yuglasno-fault-spec : {M : Type 1} → statement M
-yuglasno-fault-spec =
+pub fault-anew-spec : {M : Type 1} → statement M
+fault-anew-spec =
     tie.close
     (tie.spec
     short

@@ -1,11 +1,11 @@
--- `exports::wrote_anew` meets its contract. Assumes nothing.
+-- `anew::wrote_anew` meets its contract. Assumes nothing.
 use borrow.Author.Needs.{needs}
 use denote.Ref.{now}
 use Rattle.boundary.specs.Crossing.{crossWrote}
 use Rattle.session.specs.Reports.{reportWrote}
-use Rattle.exports.proofs.Crossings.{cross-short, cross-unknown, cross-back}
-use Rattle.exports.proofs.wrote_anew.Statement.{statement}
-use Rattle.exports.proofs.wrote_anew.Tie as tie
+use Rattle.anew.proofs.Crossings.{cross-short, cross-unknown, cross-back}
+use Rattle.anew.proofs.wrote_anew.Statement.{statement}
+use Rattle.anew.proofs.wrote_anew.Tie as tie
 
 short : tie.Need-returns
 unfolding crossWrote

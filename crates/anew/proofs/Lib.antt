@@ -1,0 +1,2 @@
+-- `Crossings`: the cases of a crossing.
+pub mod Crossings
