@@ -24,17 +24,7 @@ pub fn list(seed: u64, kind: Kind) -> List {
     // with reads of few bytes, only few bytes
     let most = if matches!(cuts, Cuts::Of(1..=16) | Cuts::UpTo(1..=16, _)) { capacity.min(600) } else { capacity };
     let banner = banner::random(rng);
-    let count = match kind {
-        Kind::Short => rng.within(1, 6),
-        Kind::Any if rng.once_in(60) => rng.within(100, 300),
-        Kind::Any => rng.within(1, 24),
-    };
-    let quits = rng.chance(30);
-    let mut calls: Vec<Call> = (0..count).map(|_| call(rng, capacity, kind)).collect();
-    if quits {
-        calls.push(Call::new(Quit));
-        (0..rng.below(4)).for_each(|_| calls.push(call(rng, capacity, kind)));
-    }
+    let calls = calls(rng, capacity, kind);
     let damage = rng.pick(&[0, 0, 3, 8, 20]);
     let failed_write = rng.chance(25).then(|| FailedWrite { at: rng.below(14), fault: fault(rng), goes_on: rng.chance(50) });
     let fails = if failed_write.is_some() { 25 } else { 3 };
@@ -63,6 +53,22 @@ pub fn list(seed: u64, kind: Kind) -> List {
         misuses: kind == Kind::Any && rng.chance(10),
         calls,
     }
+}
+
+// some calls; now and then a quit behind them, and some more
+fn calls(rng: &mut Rng, capacity: usize, kind: Kind) -> Vec<Call> {
+    let count = match kind {
+        Kind::Short => rng.within(1, 6),
+        Kind::Any if rng.once_in(60) => rng.within(100, 300),
+        Kind::Any => rng.within(1, 24),
+    };
+    let quits = rng.chance(30);
+    let mut calls: Vec<Call> = (0..count).map(|_| call(rng, capacity, kind)).collect();
+    if quits {
+        calls.push(Call::new(Quit));
+        (0..rng.below(4)).for_each(|_| calls.push(call(rng, capacity, kind)));
+    }
+    calls
 }
 
 fn fault(rng: &mut Rng) -> Fault {

@@ -42,6 +42,26 @@ fn bent(bytes: &mut Vec<u8>, rng: &mut Rng) {
     }
 }
 
+// what a call or a report is answered in this state, with a number that is none where it needs one; nothing where it is what is awaited
+fn untimely(waits: Waits, which: usize, number: &mut usize, rng: &mut Rng) -> Option<u32> {
+    Some(match (waits, which) {
+        (Waits::Ended, _) => 6,
+        (Waits::Nothing, 0) => {
+            *number = rng.pick(&[0, 15, 16, 255, 1 << 31]);
+            5
+        }
+        (Waits::Nothing, _) => 5,
+        (_, 0) => 4,
+        (Waits::Read { window }, 1) => {
+            *number = if rng.chance(50) { 0 } else { window + 1 + rng.below(3) };
+            11
+        }
+        (Waits::Read { .. }, 2) => 5,
+        (Waits::Write, 1) => 5,
+        _ => return None,
+    })
+}
+
 /// One misuse, chosen at random. Gives document 01's number that it was answered with.
 pub fn try_one<W>(host: &Host<W>, waits: Waits, lent: &[u8], rng: &mut Rng) -> Result<u32, String> {
     let mut copy = Copy { rec: host.rec.to_vec(), rx: host.rx.clone(), msg: host.msg.clone(), out: vec![0; raw::REPLY] };
@@ -62,22 +82,9 @@ pub fn try_one<W>(host: &Host<W>, waits: Waits, lent: &[u8], rng: &mut Rng) -> R
             bent(&mut lent, rng);
             3
         }
-        _ => match (waits, which) {
-            (Waits::Ended, _) => 6,
-            (Waits::Nothing, 0) => {
-                number = rng.pick(&[0, 15, 16, 255, 1 << 31]);
-                5
-            }
-            (Waits::Nothing, _) => 5,
-            (_, 0) => 4,
-            (Waits::Read { window }, 1) => {
-                number = if rng.chance(50) { 0 } else { window + 1 + rng.below(3) };
-                11
-            }
-            (Waits::Read { .. }, 2) => 5,
-            (Waits::Write, 1) => 5,
-            // what is awaited: no misuse
-            _ => return Ok(0),
+        _ => match untimely(waits, which, &mut number, rng) {
+            Some(expected) => expected,
+            None => return Ok(0),
         },
     };
     let before = (copy.rec.clone(), copy.rx.clone(), copy.msg.clone());

@@ -33,6 +33,7 @@ pub const REPLY: usize = 112;
 
 /// How many bytes the read that is asked for still wants: the record's number 9, where tail meets the need, less number 3,
 /// the tail. 0 where no read is asked for.
+#[inline]
 pub fn wanted(rec: &[u8; RECORD]) -> usize {
     let number = |i: usize| u64::from_le_bytes(rec[8 * i..8 * i + 8].try_into().expect("eight bytes"));
     number(9).saturating_sub(number(3)) as usize

@@ -57,6 +57,20 @@ fn done<W: Wire>(s: &mut ours::Host<W>, step: Step, lent: &[u8], a: u32) {
     assert_eq!(s.run(step, lent, a, 0), 0);
 }
 
+// a listing or a pull: its start, then steps up to the end; each hands out a part
+#[inline(always)]
+fn until_end<W: Wire>(s: &mut ours::Host<W>, (start, step): (Step, Step), number: impl Fn(&ours::Host<W>) -> u64) -> u64 {
+    done(s, start, PATH.as_bytes(), 0);
+    let mut sum = 0;
+    loop {
+        done(s, step, b"", 0);
+        if s.at(0) == 1 {
+            return sum;
+        }
+        sum += number(s) + black_box(s.told()).len() as u64;
+    }
+}
+
 #[inline(never)]
 pub fn measured_ours(case: &Case, s: &mut ours::Host<Script>) -> u64 {
     let mut sum = 0;
@@ -70,28 +84,10 @@ pub fn measured_ours(case: &Case, s: &mut ours::Host<Script>) -> u64 {
             done(s, Step::StatV2, path, 0);
             sum += s.at(10) & 0xffff_ffff;
         }),
-        Kind::List | Kind::ListV2 => {
-            let v1 = case.kind == Kind::List;
-            let (start, step, size) = if v1 { (Step::List, Step::Entry, 4) } else { (Step::ListV2, Step::EntryV2, 10) };
-            done(s, start, path, 0);
-            loop {
-                done(s, step, b"", 0);
-                if s.at(0) == 1 {
-                    break;
-                }
-                sum += (s.at(size) & 0xffff_ffff) + black_box(s.told()).len() as u64;
-            }
-        }
-        Kind::Pull | Kind::PullV2 => {
-            done(s, if case.kind == Kind::Pull { Step::Recv } else { Step::RecvV2 }, path, 0);
-            loop {
-                done(s, Step::RecvNext, b"", 0);
-                if s.at(0) == 1 {
-                    break;
-                }
-                sum += black_box(s.told()).len() as u64;
-            }
-        }
+        Kind::List => sum = until_end(s, (Step::List, Step::Entry), |s| s.at(4) & 0xffff_ffff),
+        Kind::ListV2 => sum = until_end(s, (Step::ListV2, Step::EntryV2), |s| s.at(10) & 0xffff_ffff),
+        Kind::Pull => sum = until_end(s, (Step::Recv, Step::RecvNext), |_| 0),
+        Kind::PullV2 => sum = until_end(s, (Step::RecvV2, Step::RecvNext), |_| 0),
         Kind::Push | Kind::PushV2 => {
             done(s, if case.kind == Kind::Push { Step::Send } else { Step::SendV2 }, path, 0o100644);
             done(s, Step::Data, &case.data, 0);
