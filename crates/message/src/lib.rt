@@ -50,7 +50,7 @@ fn begin(out: &mut [u8], id: SyncId, count: usize, lent: &[u8], rest: usize) -> 
 }
 
 // STAT, STA2, LIST, LIS2, RECV and DATA: the path, or the data, and nothing else.
-fn compose_lent(out: &mut [u8], id: SyncId, lent: &[u8]) -> usize
+pub fn compose_lent(out: &mut [u8], id: SyncId, lent: &[u8]) -> usize
     ensures { λ r. ⌜ (now (out .exit), r) ≡ placed (now (out .entry)) 0 (letters (idOf id) ++ word (length (now (lent .entry))) ++ joined (now (lent .entry) ∷ [])) ⌝ }
 {
     begin(out, id, lent.len(), lent, 0)

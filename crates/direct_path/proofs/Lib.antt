@@ -1,0 +1,2 @@
+-- `Starts`: a call that is started at once is its crossing.
+mod Starts
