@@ -171,7 +171,7 @@ fn piece_behind(out: &mut [u8], p: Piece) -> usize
 }
 
 // How many bytes, then the bytes.
-fn put_piece(out: &mut [u8], p: Piece)
+pub fn put_piece(out: &mut [u8], p: Piece)
     ensures { λ _. ⌜ now (out .exit) ≡ put (now (out .entry)) 0 (words (length (byValue p) ∷ []) ++ byValue p) ⌝ }
 {
     let n = piece_len(p);

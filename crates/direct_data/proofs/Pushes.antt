@@ -1,0 +1,184 @@
+-- What follows an accepted write of a DATA message, taken at once: this is its crossing. Assumes nothing.
+use mathlib.Core.Bool.{Bool, true, false, not, _&&_, and-eq-true-iff}
+use mathlib.Core.List.{List, [], _∷_, _++_, append-nil}
+use mathlib.Core.Path.{_≡_, refl, sym, ap, _∙_}
+use Prim.Native.Nat.{ℕ, _+_, _-_, _≤_, _<_}
+use native.Mathlib.Omega.{arith}
+use borrow.Author.Tests.{ne-eqb, eqb-true, ltb-true, leb-true, leb-false, not-true}
+use lib.Dec.{eqb, ltb, leb}
+use lib.ListN.{length, take, drop, getD, length-append, length-take}
+use Rattle.protocol.specs.Bytes.{pick}
+use Rattle.protocol.specs.Ids.{published, letters, DATA}
+use Rattle.protocol.specs.Messages.{dataMost, word, messageOf, bytesOfRequest}
+use Rattle.protocol.proofs.Bytes.{put-out, putLength-out}
+use Rattle.boundary.specs.Crossing.{crossed, back, crossWrote}
+use Rattle.boundary.specs.Told.{replyNumber, outSize}
+use Rattle.direct.specs.Direct.{tried}
+use Rattle.direct.proofs.Taken.{ses, good, head-same, tail-same, lent-same, pending-at, no-report-refusal, done-tried}
+use Rattle.message.proofs.Laws.{header-bytes}
+use Rattle.message.specs.Composed.{placed}
+use Rattle.piece.proofs.Laws.{piece-part}
+use Rattle.piece.specs.Pieces.{headerOf, pieceList, pieceOf}
+use Rattle.piece.specs.declared.Piece.{Piece}
+use Rattle.piece.specs.declared.Piece.the-variants.{Lent, End}
+use Rattle.record.specs.Record.{loaded}
+use Rattle.recv_buf.proofs.Laws.{compacted-front}
+use Rattle.recv_buf.specs.RecvBuf.{cursor}
+use Rattle.request.specs.Meaning.{meant}
+use Rattle.request.specs.declared.Request.the-variants as Q
+use Rattle.sender.proofs.Laws.{wrote-whole, wrote-last, wrote-next, pieces-out}
+use Rattle.session.specs.Reports.{refusalAt, wroteAt, reportWrote}
+use Rattle.session.specs.State as S
+use Rattle.session.specs.State.{St, st, Half, half, beside, stepped, at, begun}
+use Rattle.session.specs.Steps.{carried, messageOut, sent, resumed, wroteOn}
+use Rattle.session.specs.declared.Pending.{Pending}
+use Rattle.session.specs.declared.Pending.the-variants.{Writing}
+use Rattle.session.specs.declared.Reply.{Reply}
+use Rattle.session.specs.declared.Reply.the-variants as R
+use Rattle.standing.specs.Standing.{numberIn, Stands, standing}
+use Rattle.standing.proofs.Laws.{number-in, stands-of}
+use Rattle.direct_data.specs.Pushing.{accepted, partIn, nextIn, nextPart, pushStep, partDone, partNow, fits, goesOn, headerGoes, headerDone, headerNow}
+
+-- the tests, taken apart
+pub record Accepted (rec : List ℕ) (x m l k o : ℕ) : Type 0 where
+  pub state : numberIn rec 7 ≡ 9
+  pub piece : numberIn rec 11 ≡ k
+  pub stands : Stands rec x m
+  pub same : l ≡ numberIn rec 4
+  pub room : outSize ≤ o
+
+pub accepted-of : (rec : List ℕ) (x m l k o : ℕ) → accepted rec x m l k o ≡ true → Accepted rec x m l k o
+accepted-of rec x m l k o e =
+    let (a, r) = and-eq-true-iff (eqb (numberIn rec 7) 9 && eqb (numberIn rec 11) k && standing (loaded rec) x m && eqb l (numberIn rec 4)) (leb outSize o) .0 e in
+    let (b, q) = and-eq-true-iff (eqb (numberIn rec 7) 9 && eqb (numberIn rec 11) k && standing (loaded rec) x m) (eqb l (numberIn rec 4)) .0 a in
+    let (d, s) = and-eq-true-iff (eqb (numberIn rec 7) 9 && eqb (numberIn rec 11) k) (standing (loaded rec) x m) .0 b in
+    let (t, p) = and-eq-true-iff (eqb (numberIn rec 7) 9) (eqb (numberIn rec 11) k) .0 d in
+    record { state = eqb-true _ _ t; piece = eqb-true _ _ p; stands = stands-of rec x m s; same = eqb-true _ _ q; room = leb-true _ _ r }
+
+-- a message of data is its header and the data
+data-length : (x : List ℕ) → length (bytesOfRequest published (meant Q.Data x)) ≡ 8 + length x
+unfolding bytesOfRequest messageOf
+data-length x =
+    length-append (letters DATA ++ word (length x)) (x ++ []) ∙ rw (header-bytes DATA (length x)) (ap (λ (l : List ℕ). 8 + length l) (append-nil x))
+
+-- no message carries more
+pub at-most : (from : ℕ) (lent : List ℕ) → length (carried Q.Data from lent) ≤ dataMost
+unfolding carried
+at-most from lent = omega (arith, length-take dataMost (drop from lent))
+
+-- the lengths, as the code reads them
+module _ (rec lent : List ℕ) {f : ℕ} {p : List ℕ} where
+  pub part-read : f ≡ numberIn rec 10 → p ≡ carried Q.Data f lent → length p ≡ length (partIn rec lent)
+  part-read e q = rw (q, e)
+
+  pub next-read : f ≡ nextIn rec lent → p ≡ carried Q.Data f lent → length p ≡ length (nextPart rec lent)
+  next-read e q = rw (q, e)
+
+pub stands-inside : (rec : List ℕ) (x m : ℕ) → Stands rec x m → numberIn rec 3 ≤ x
+stands-inside rec x m h = omega (arith, h .inside, h .rx)
+
+-- it has two pieces
+second-end : (n : ℕ) → End ≡ pieceOf Q.Data n 2
+unfolding pieceOf pieceList
+second-end n = go (eqb n 0)
+  where
+    go : (b : Bool) → End ≡ getD (headerOf Q.Data n ∷ pick b [] (Lent ∷ [])) 2 End
+    go true = refl
+    go false = refl
+
+module _ (rec rx msg lent out : List ℕ) (k : ℕ) (e : accepted rec (length rx) (length msg) (length lent) k (length out) ≡ true) where
+  a : Accepted rec (length rx) (length msg) (length lent) k (length out)
+  a = accepted-of rec (length rx) (length msg) (length lent) k (length out) e
+
+  h : Stands rec (length rx) (length msg)
+  h = a .stands
+
+  abbrev from : ℕ
+  from = numberIn rec 10
+
+  abbrev s : St
+  s = st (ses rec rx msg h) rx msg
+
+  writes : ses rec rx msg h .pending ≡ Writing Q.Data from k
+  writes = rw (number-in rec 10 (h .sized), ← a .piece, number-in rec 11 (h .sized)) (pending-at rec rx msg h 9 (a .state))
+
+  let-in : refusalAt s (length lent) ≡ 0
+  let-in = no-report-refusal rec rx msg h (length lent) (a .same) _ writes refl
+
+  -- the step, by the session's own definitions
+  wrote-data : wroteOn s Q.Data from k lent ≡ reportWrote s lent
+  unfolding reportWrote wroteAt
+  wrote-data = rw let-in (sym (ap (λ (p : Pending). wroteAt p s lent) writes))
+
+  -- the session as the code puts it back
+  place : (p : Pending) (r : Reply) (new : List ℕ)
+      → S.out (stepped (at (begun (ses rec rx msg h) (numberIn rec 4)) (cursor (numberIn rec 2) (numberIn rec 3)) p) r) new msg
+      ≡ S.out (stepped (at (ses rec rx msg h) (ses rec rx msg h .buf) p) r) new msg
+  place p r new = rw (head-same rec rx msg h, tail-same rec rx msg h, lent-same rec rx msg h)
+
+  -- the next message
+  module _ (last : resumed s Q.Data from lent ≡ wroteOn s Q.Data from k lent) (some : 0 < length (nextPart rec lent)) where
+    sends : beside (messageOut (ses rec rx msg h) rx Q.Data (nextIn rec lent) (nextPart rec lent)) msg ≡ reportWrote s lent
+    unfolding resumed sent
+    sends = rw (ne-eqb (length (nextPart rec lent)) 0 (λ z. omega (arith, some, z))) at (last ∙ wrote-data)
+
+-- ---- the header was accepted
+
+module _ (rec rx msg lent out : List ℕ) (e : accepted rec (length rx) (length msg) (length lent) 1 (length out) ≡ true) where
+  part-stepped : 0 < length (partIn rec lent)
+      → S.out (stepped (at (ses rec rx msg (h rec rx msg lent out 1 e)) (ses rec rx msg (h rec rx msg lent out 1 e) .buf) (Writing Q.Data (numberIn rec 10) 2)) (R.WriteLent (numberIn rec 10) (length (partIn rec lent)))) rx msg
+      ≡ reportWrote (s rec rx msg lent out 1 e) lent
+  part-stepped z =
+      wrote-next (s rec rx msg lent out 1 e) Q.Data (numberIn rec 10) 1 lent (λ q. omega (arith, q)) (partIn rec lent) refl Lent
+      (piece-part Q.Data (length (partIn rec lent)) 1 (λ q. omega (arith, q)) (λ q. omega (arith, z, q))) refl
+      ∙ wrote-data rec rx msg lent out 1 e
+
+  pub part-tried : (t : Bool) (new told : List ℕ) → (t, new, told) ≡ partDone rec lent out
+      → (t, crossed new rx msg told 3) ≡ tried (partNow rec rx msg lent out) (crossWrote rec rx msg lent out) (crossed rec rx msg out 3)
+  unfolding crossWrote replyNumber
+  part-tried t new told d =
+      let n = length (partIn rec lent) in
+      let r = R.WriteLent (numberIn rec 10) n in
+      let p = Writing Q.Data (numberIn rec 10) 2 in
+      done-tried rec rx msg out (h rec rx msg lent out 1 e) (a rec rx msg lent out 1 e .room) (λ s. back rec out (reportWrote s lent)) (numberIn rec 2)
+      (numberIn rec 3) (numberIn rec 4) 3 (pushStep (numberIn rec 10) 2) p r refl refl refl (ltb 0 n) (partNow rec rx msg lent out) t new told (rw e)
+      (λ z. ap (back rec out) (place rec rx msg lent out 1 e p r rx ∙ part-stepped (ltb-true 0 n z)))
+      d
+
+-- ---- the data was accepted
+
+module _ (rec rx msg lent out : List ℕ) (e : accepted rec (length rx) (length msg) (length lent) 2 (length out) ≡ true) where
+  abbrev u : St
+  u = s rec rx msg lent out 2 e
+
+  last : resumed u Q.Data (numberIn rec 10) lent ≡ wroteOn u Q.Data (numberIn rec 10) 2 lent
+  last = wrote-last u Q.Data (numberIn rec 10) 2 lent (λ q. omega (arith, q)) (partIn rec lent) refl End (second-end (length (partIn rec lent))) refl
+
+  header-stepped : headerGoes rec rx lent ≡ true
+      → S.out (stepped (at (u .ses) (u .ses .buf) (Writing Q.Data (nextIn rec lent) 1)) (R.WriteBytes (headerOf Q.Data (length (nextPart rec lent))))) rx msg
+      ≡ reportWrote u lent
+  unfolding pieceOf pieceList
+  header-stepped z =
+      let v = h rec rx msg lent out 2 e in
+      let part = nextPart rec lent in
+      let (g, f) = and-eq-true-iff (goesOn rec lent) (not (fits rec (length rx) (length part))) .0 z in
+      let (i, j) = and-eq-true-iff (eqb (numberIn rec 2) 0) (ltb 0 (length part)) .0 g in
+      let w = leb-false (8 + length part) (length rx - numberIn rec 3) (not-true _ f) in
+      let y = tail-same rec rx msg v in
+      let m = bytesOfRequest published (meant Q.Data part) in
+      let short : length rx < u .ses .buf .tail + length m = omega (arith, w, y, data-length part, good rec rx msg v 0 .inside, good rec rx msg v 0 .rx) in
+      ap (λ (o : Half). beside o msg)
+      (pieces-out (u .ses) rx Q.Data (nextIn rec lent) part rx (u .ses .buf) (sym (compacted-front rx (u .ses .buf) (sym (head-same rec rx msg v) ∙ eqb-true _ _ i))) rx 0
+      (rw (put-out rx (u .ses .buf .tail) m short, putLength-out rx (u .ses .buf .tail) m short)) refl)
+      ∙ sends rec rx msg lent out 2 e last (ltb-true 0 (length part) j)
+
+  pub header-tried : (t : Bool) (new told : List ℕ) → (t, new, told) ≡ headerDone rec rx lent out
+      → (t, crossed new rx msg told 4) ≡ tried (headerNow rec rx msg lent out) (crossWrote rec rx msg lent out) (crossed rec rx msg out 4)
+  unfolding crossWrote replyNumber
+  header-tried t new told d =
+      let r = R.WriteBytes (headerOf Q.Data (length (nextPart rec lent))) in
+      let p = Writing Q.Data (nextIn rec lent) 1 in
+      done-tried rec rx msg out (h rec rx msg lent out 2 e) (a rec rx msg lent out 2 e .room) (λ s. back rec out (reportWrote s lent)) (numberIn rec 2)
+      (numberIn rec 3) (numberIn rec 4) 4 (pushStep (nextIn rec lent) 1) p r refl refl refl (headerGoes rec rx lent) (headerNow rec rx msg lent out) t new told (rw e)
+      (λ z. ap (back rec out) (place rec rx msg lent out 2 e p r rx ∙ header-stepped z))
+      d
