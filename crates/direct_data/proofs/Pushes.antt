@@ -6,30 +6,29 @@ use Prim.Native.Nat.{ℕ, _+_, _-_, _≤_, _<_}
 use native.Mathlib.Omega.{arith}
 use borrow.Author.Tests.{ne-eqb, eqb-true, ltb-true, leb-true, leb-false, not-true}
 use lib.Dec.{eqb, ltb, leb}
-use lib.ListN.{length, take, drop, getD, length-append, length-take}
-use Rattle.protocol.specs.Bytes.{pick}
+use lib.ListN.{length, drop, getD, length-append, length-take}
+use Rattle.protocol.specs.Bytes.{pick, put}
 use Rattle.protocol.specs.Ids.{published, letters, DATA}
 use Rattle.protocol.specs.Messages.{dataMost, word, messageOf, bytesOfRequest}
-use Rattle.protocol.proofs.Bytes.{put-out, putLength-out}
+use Rattle.protocol.proofs.Bytes.{put-out, putLength-in, putLength-out}
 use Rattle.boundary.specs.Crossing.{crossed, back, crossWrote}
 use Rattle.boundary.specs.Told.{replyNumber, outSize}
 use Rattle.direct.specs.Direct.{tried}
-use Rattle.direct.proofs.Taken.{ses, good, head-same, tail-same, lent-same, pending-at, no-report-refusal, done-tried}
+use Rattle.direct.proofs.Taken.{ses, head-same, tail-same, lent-same, pending-at, no-report-refusal, done-tried, written-tried}
 use Rattle.message.proofs.Laws.{header-bytes}
 use Rattle.message.specs.Composed.{placed}
 use Rattle.piece.proofs.Laws.{piece-part}
 use Rattle.piece.specs.Pieces.{headerOf, pieceList, pieceOf}
-use Rattle.piece.specs.declared.Piece.{Piece}
 use Rattle.piece.specs.declared.Piece.the-variants.{Lent, End}
 use Rattle.record.specs.Record.{loaded}
 use Rattle.recv_buf.proofs.Laws.{compacted-front}
-use Rattle.recv_buf.specs.RecvBuf.{cursor}
+use Rattle.recv_buf.specs.RecvBuf.{cursor, compacted}
 use Rattle.request.specs.Meaning.{meant}
 use Rattle.request.specs.declared.Request.the-variants as Q
-use Rattle.sender.proofs.Laws.{wrote-whole, wrote-last, wrote-next, pieces-out}
+use Rattle.sender.proofs.Laws.{wrote-whole, wrote-last, wrote-next, whole-out, pieces-out}
 use Rattle.session.specs.Reports.{refusalAt, wroteAt, reportWrote}
 use Rattle.session.specs.State as S
-use Rattle.session.specs.State.{St, st, Half, half, beside, stepped, at, begun}
+use Rattle.session.specs.State.{St, st, Half, beside, stepped, at, begun}
 use Rattle.session.specs.Steps.{carried, messageOut, sent, resumed, wroteOn}
 use Rattle.session.specs.declared.Pending.{Pending}
 use Rattle.session.specs.declared.Pending.the-variants.{Writing}
@@ -37,7 +36,7 @@ use Rattle.session.specs.declared.Reply.{Reply}
 use Rattle.session.specs.declared.Reply.the-variants as R
 use Rattle.standing.specs.Standing.{numberIn, Stands, standing}
 use Rattle.standing.proofs.Laws.{number-in, stands-of}
-use Rattle.direct_data.specs.Pushing.{accepted, partIn, nextIn, nextPart, pushStep, partDone, partNow, fits, goesOn, headerGoes, headerDone, headerNow}
+use Rattle.direct_data.specs.Pushing.{accepted, partIn, nextIn, nextPart, pushStep, partDone, partNow, fits, goesOn, headerGoes, headerDone, headerNow, wholeGoes, wholeDone, wholeNow}
 
 -- the tests, taken apart
 pub record Accepted (rec : List ℕ) (x m l k o : ℕ) : Type 0 where
@@ -66,13 +65,13 @@ pub at-most : (from : ℕ) (lent : List ℕ) → length (carried Q.Data from len
 unfolding carried
 at-most from lent = omega (arith, length-take dataMost (drop from lent))
 
--- the lengths, as the code reads them
-module _ (rec lent : List ℕ) {f : ℕ} {p : List ℕ} where
-  pub part-read : f ≡ numberIn rec 10 → p ≡ carried Q.Data f lent → length p ≡ length (partIn rec lent)
-  part-read e q = rw (q, e)
+-- what a message carries, as the code reads it
+module _ (rec lent : List ℕ) {f : ℕ} {p : List ℕ} (q : p ≡ carried Q.Data f lent) where
+  pub part-read : f ≡ numberIn rec 10 → p ≡ partIn rec lent
+  part-read e = q ∙ ap (λ (k : ℕ). carried Q.Data k lent) e
 
-  pub next-read : f ≡ nextIn rec lent → p ≡ carried Q.Data f lent → length p ≡ length (nextPart rec lent)
-  next-read e q = rw (q, e)
+  pub next-read : f ≡ nextIn rec lent → p ≡ nextPart rec lent
+  next-read e = q ∙ ap (λ (k : ℕ). carried Q.Data k lent) e
 
 pub stands-inside : (rec : List ℕ) (x m : ℕ) → Stands rec x m → numberIn rec 3 ≤ x
 stands-inside rec x m h = omega (arith, h .inside, h .rx)
@@ -85,6 +84,18 @@ second-end n = go (eqb n 0)
     go : (b : Bool) → End ≡ getD (headerOf Q.Data n ∷ pick b [] (Lent ∷ [])) 2 End
     go true = refl
     go false = refl
+
+-- the next message, as it is composed
+pub composed-whole : (rec rx lent : List ℕ) {at n : ℕ} {p x : List ℕ} → (x, n) ≡ placed rx at (bytesOfRequest published (meant Q.Data p))
+    → at ≡ numberIn rec 3 → p ≡ nextPart rec lent → numberIn rec 3 ≤ length rx → fits rec (length rx) (length (nextPart rec lent)) ≡ true
+    → _≡_ {A = List ℕ × ℕ} (x, n) (put rx (numberIn rec 3) (bytesOfRequest published (meant Q.Data (nextPart rec lent))), 8 + length (nextPart rec lent))
+composed-whole rec rx lent q a e i f =
+    let part = nextPart rec lent in
+    let m = bytesOfRequest published (meant Q.Data part) in
+    let r = leb-true (8 + length part) (length rx - numberIn rec 3) f in
+    let l = data-length part in
+    let room : numberIn rec 3 + length m ≤ length rx = omega (arith, r, i, l) in
+    q ∙ rw (a, e, putLength-in rx (numberIn rec 3) m room, l)
 
 module _ (rec rx msg lent out : List ℕ) (k : ℕ) (e : accepted rec (length rx) (length msg) (length lent) k (length out) ≡ true) where
   a : Accepted rec (length rx) (length msg) (length lent) k (length out)
@@ -116,11 +127,17 @@ module _ (rec rx msg lent out : List ℕ) (k : ℕ) (e : accepted rec (length rx
       ≡ S.out (stepped (at (ses rec rx msg h) (ses rec rx msg h .buf) p) r) new msg
   place p r new = rw (head-same rec rx msg h, tail-same rec rx msg h, lent-same rec rx msg h)
 
-  -- the next message
-  module _ (last : resumed s Q.Data from lent ≡ wroteOn s Q.Data from k lent) (some : 0 < length (nextPart rec lent)) where
+  -- the next message, before which nothing is moved
+  module _ (last : resumed s Q.Data from lent ≡ wroteOn s Q.Data from k lent) (g : goesOn rec lent ≡ true) where
+    parted : (eqb (numberIn rec 2) 0 ≡ true) × (ltb 0 (length (nextPart rec lent)) ≡ true)
+    parted = and-eq-true-iff (eqb (numberIn rec 2) 0) (ltb 0 (length (nextPart rec lent))) .0 g
+
+    front : (rx, ses rec rx msg h .buf) ≡ compacted rx (ses rec rx msg h .buf)
+    front = sym (compacted-front rx (ses rec rx msg h .buf) (sym (head-same rec rx msg h) ∙ eqb-true _ _ (parted .0)))
+
     sends : beside (messageOut (ses rec rx msg h) rx Q.Data (nextIn rec lent) (nextPart rec lent)) msg ≡ reportWrote s lent
     unfolding resumed sent
-    sends = rw (ne-eqb (length (nextPart rec lent)) 0 (λ z. omega (arith, some, z))) at (last ∙ wrote-data)
+    sends = rw (ne-eqb (length (nextPart rec lent)) 0 (λ z. omega (arith, ltb-true 0 (length (nextPart rec lent)) (parted .1), z))) at (last ∙ wrote-data)
 
 -- ---- the header was accepted
 
@@ -162,15 +179,13 @@ module _ (rec rx msg lent out : List ℕ) (e : accepted rec (length rx) (length 
       let v = h rec rx msg lent out 2 e in
       let part = nextPart rec lent in
       let (g, f) = and-eq-true-iff (goesOn rec lent) (not (fits rec (length rx) (length part))) .0 z in
-      let (i, j) = and-eq-true-iff (eqb (numberIn rec 2) 0) (ltb 0 (length part)) .0 g in
       let w = leb-false (8 + length part) (length rx - numberIn rec 3) (not-true _ f) in
-      let y = tail-same rec rx msg v in
       let m = bytesOfRequest published (meant Q.Data part) in
-      let short : length rx < u .ses .buf .tail + length m = omega (arith, w, y, data-length part, good rec rx msg v 0 .inside, good rec rx msg v 0 .rx) in
+      let short : length rx < u .ses .buf .tail + length m = omega (arith, w, tail-same rec rx msg v, data-length part, stands-inside rec (length rx) (length msg) v) in
       ap (λ (o : Half). beside o msg)
-      (pieces-out (u .ses) rx Q.Data (nextIn rec lent) part rx (u .ses .buf) (sym (compacted-front rx (u .ses .buf) (sym (head-same rec rx msg v) ∙ eqb-true _ _ i))) rx 0
+      (pieces-out (u .ses) rx Q.Data (nextIn rec lent) part rx (u .ses .buf) (front rec rx msg lent out 2 e last g) rx 0
       (rw (put-out rx (u .ses .buf .tail) m short, putLength-out rx (u .ses .buf .tail) m short)) refl)
-      ∙ sends rec rx msg lent out 2 e last (ltb-true 0 (length part) j)
+      ∙ sends rec rx msg lent out 2 e last g
 
   pub header-tried : (t : Bool) (new told : List ℕ) → (t, new, told) ≡ headerDone rec rx lent out
       → (t, crossed new rx msg told 4) ≡ tried (headerNow rec rx msg lent out) (crossWrote rec rx msg lent out) (crossed rec rx msg out 4)
@@ -181,4 +196,40 @@ module _ (rec rx msg lent out : List ℕ) (e : accepted rec (length rx) (length 
       done-tried rec rx msg out (h rec rx msg lent out 2 e) (a rec rx msg lent out 2 e .room) (λ s. back rec out (reportWrote s lent)) (numberIn rec 2)
       (numberIn rec 3) (numberIn rec 4) 4 (pushStep (nextIn rec lent) 1) p r refl refl refl (headerGoes rec rx lent) (headerNow rec rx msg lent out) t new told (rw e)
       (λ z. ap (back rec out) (place rec rx msg lent out 2 e p r rx ∙ header-stepped z))
+      d
+
+-- ---- a message that was composed whole was accepted
+
+module _ (rec rx msg lent out : List ℕ) (e : accepted rec (length rx) (length msg) (length lent) 0 (length out) ≡ true) where
+  abbrev w : St
+  w = s rec rx msg lent out 0 e
+
+  abbrev composed : List ℕ
+  composed = put rx (numberIn rec 3) (bytesOfRequest published (meant Q.Data (nextPart rec lent)))
+
+  whole-stepped : wholeGoes rec rx lent ≡ true
+      → S.out (stepped (at (w .ses) (w .ses .buf) (Writing Q.Data (nextIn rec lent) 0)) (R.WriteRx (numberIn rec 3) (8 + length (nextPart rec lent)))) composed msg
+      ≡ reportWrote w lent
+  whole-stepped z =
+      let v = h rec rx msg lent out 0 e in
+      let part = nextPart rec lent in
+      let (g, f) = and-eq-true-iff (goesOn rec lent) (fits rec (length rx) (length part)) .0 z in
+      let y = tail-same rec rx msg v in
+      let whole = wrote-whole w Q.Data (numberIn rec 10) 0 lent refl in
+      let c = composed-whole rec rx lent {at = numberIn rec 3} {p = part} refl refl refl (stands-inside rec (length rx) (length msg) v) f in
+      rw y
+      (ap (λ (o : Half). beside o msg)
+      (whole-out (w .ses) rx Q.Data (nextIn rec lent) part rx (w .ses .buf) (front rec rx msg lent out 0 e whole g)
+      (put rx (w .ses .buf .tail) (bytesOfRequest published (meant Q.Data part))) (8 + length part) (sym (rw y at c)) (λ q. omega (arith, q)))
+      ∙ sends rec rx msg lent out 0 e whole g)
+
+  pub whole-tried : (t : Bool) (new rx′ told : List ℕ) → (t, new, rx′, told) ≡ wholeDone rec rx lent out
+      → (t, crossed new rx′ msg told 2) ≡ tried (wholeNow rec rx msg lent out) (crossWrote rec rx msg lent out) (crossed rec rx msg out 2)
+  unfolding crossWrote replyNumber
+  whole-tried t new rx′ told d =
+      let r = R.WriteRx (numberIn rec 3) (8 + length (nextPart rec lent)) in
+      let p = Writing Q.Data (nextIn rec lent) 0 in
+      written-tried rec rx msg out (h rec rx msg lent out 0 e) (a rec rx msg lent out 0 e .room) (λ s. back rec out (reportWrote s lent)) (numberIn rec 2)
+      (numberIn rec 3) (numberIn rec 4) 2 (pushStep (nextIn rec lent) 0) p r refl refl refl composed (wholeGoes rec rx lent) (wholeNow rec rx msg lent out) t new rx′ told (rw e)
+      (λ z. ap (back rec out) (place rec rx msg lent out 0 e p r composed ∙ whole-stepped z))
       d

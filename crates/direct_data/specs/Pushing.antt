@@ -1,15 +1,19 @@
--- When what follows an accepted write of a DATA message is taken at once: its data goes out behind its header, or the header of the next
--- message; and what each leaves.
+-- When what follows an accepted write of a DATA message is taken at once: its data goes out behind its header, or the next message does,
+-- whole or its header; and what each leaves.
 -- Assumes nothing.
 use Prim.Native.Nat.{ℕ, _+_, _-_}
 use mathlib.Core.Bool.{Bool, not, _&&_}
 use mathlib.Core.List.{List}
 use lib.Dec.{eqb, ltb, leb}
 use lib.ListN.{length}
+use Rattle.protocol.specs.Bytes.{put}
+use Rattle.protocol.specs.Ids.{published}
+use Rattle.protocol.specs.Messages.{bytesOfRequest}
 use Rattle.boundary.specs.Told.{outSize}
-use Rattle.direct.specs.Direct.{done}
+use Rattle.direct.specs.Direct.{done, written}
 use Rattle.piece.specs.Pieces.{headerOf}
 use Rattle.record.specs.Record.{loaded}
+use Rattle.request.specs.Meaning.{meant}
 use Rattle.request.specs.declared.Request.the-variants as Q
 use Rattle.session.specs.Steps.{carried}
 use Rattle.session.specs.declared.Reply.the-variants as R
@@ -67,3 +71,15 @@ headerDone rec rx lent out =
 
 abbrev pub headerNow : (rec rx msg lent out : List ℕ) → Bool
 headerNow rec rx msg lent out = accepted rec (length rx) (length msg) (length lent) 2 (length out) && headerGoes rec rx lent
+
+-- it whole, composed behind what is held, where it fits
+abbrev pub wholeGoes : (rec rx lent : List ℕ) → Bool
+wholeGoes rec rx lent = goesOn rec lent && fits rec (length rx) (length (nextPart rec lent))
+
+abbrev pub wholeDone : (rec rx lent out : List ℕ) → Bool × List ℕ × List ℕ × List ℕ
+wholeDone rec rx lent out =
+    written (wholeGoes rec rx lent) rec rx (numberIn rec 2) (numberIn rec 3) (numberIn rec 4) (pushStep (nextIn rec lent) 0)
+    (put rx (numberIn rec 3) (bytesOfRequest published (meant Q.Data (nextPart rec lent)))) (R.WriteRx (numberIn rec 3) (8 + length (nextPart rec lent))) out
+
+abbrev pub wholeNow : (rec rx msg lent out : List ℕ) → Bool
+wholeNow rec rx msg lent out = accepted rec (length rx) (length msg) (length lent) 0 (length out) && wholeGoes rec rx lent

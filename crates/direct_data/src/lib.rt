@@ -9,8 +9,9 @@ ghost use Rattle.boundary.specs.Crossing.{crossed, crossWrote};
 ghost use Rattle.direct.specs.Direct.{tried};
 ghost use Rattle.record.specs.Record.{size, words};
 ghost use Rattle.standing.specs.Standing.{numberIn, movedNumbers};
-ghost use Rattle.direct_data.specs.Pushing.{accepted, fits, nextIn, pushStep, partDone, partNow, headerDone, headerNow};
+ghost use Rattle.direct_data.specs.Pushing.{accepted, fits, nextIn, pushStep, partDone, partNow, headerDone, headerNow, wholeDone, wholeNow};
 use format_id::SyncId;
+use message::compose_at;
 use piece::Piece;
 use reply::put_piece;
 use reply::put_two;
@@ -131,6 +132,40 @@ pub fn header_out(rec: &mut [u8], rx: &[u8], msg: &[u8], lent: &[u8], out: &mut 
 {
     if accepted(rec, rx.len(), msg.len(), lent.len(), 2, out.len()) {
         return put_header(rec, rx, lent, out);
+    }
+    false
+}
+
+// It whole, composed behind what is held; nothing where it does not fit, or would only after a compaction.
+fn put_whole(rec: &mut [u8], rx: &mut [u8], lent: &[u8], out: &mut [u8]) -> bool
+    requires { ⌜ (length (now rec) ≡ size) × (numberIn (now rec) 3 ≤ length (now rx)) ⌝ }
+    ensures { λ r. ⌜ (r, now (rec .exit), now (rx .exit), now (out .exit)) ≡ wholeDone (now (rec .entry)) (now (rx .entry)) (now (lent .entry)) (now (out .entry)) ⌝ }
+{
+    if number(rec, 2) == 0 {
+        let from = next(rec, lent);
+        let part = carried(Request::Data, from, lent);
+        let n = part.len();
+        if n == 0 {
+            return false;
+        }
+        if fits(rec, rx.len(), n) {
+            let tail = number(rec, 3);
+            let len = compose_at(rx, tail, Request::Data, part);
+            put_two(out, tail as u64, len as u64);
+            store_push(rec, from, 0);
+            return true;
+        }
+        return false;
+    }
+    false
+}
+
+// A DATA message that was composed whole was accepted.
+pub fn whole_out(rec: &mut [u8], rx: &mut [u8], msg: &[u8], lent: &[u8], out: &mut [u8]) -> bool
+    ensures { λ r. ⌜ (r, crossed (now (rec .exit)) (now (rx .exit)) (now (msg .entry)) (now (out .exit)) 2) ≡ tried (wholeNow (now (rec .entry)) (now (rx .entry)) (now (msg .entry)) (now (lent .entry)) (now (out .entry))) (crossWrote (now (rec .entry)) (now (rx .entry)) (now (msg .entry)) (now (lent .entry)) (now (out .entry))) (crossed (now (rec .entry)) (now (rx .entry)) (now (msg .entry)) (now (out .entry)) 2) ⌝ }
+{
+    if accepted(rec, rx.len(), msg.len(), lent.len(), 0, out.len()) {
+        return put_whole(rec, rx, lent, out);
     }
     false
 }

@@ -4,7 +4,7 @@ use borrow.Author.Needs.{needs}
 use denote.Ref.{now}
 use lib.ListN.{length}
 use Rattle.direct.proofs.Taken.{not-tried}
-use Rattle.direct_data.specs.Pushing.{accepted, headerNow}
+use Rattle.direct_data.specs.Pushing.{headerNow}
 use Rattle.direct_data.proofs.Pushes.{accepted-of, stands-inside, header-tried}
 use Rattle.direct_data.proofs.header_out.Statement.{statement}
 use Rattle.direct_data.proofs.header_out.Tie as tie

@@ -4,7 +4,7 @@ use borrow.Author.Needs.{needs}
 use denote.Ref.{now}
 use lib.ListN.{length}
 use Rattle.direct.proofs.Taken.{not-tried}
-use Rattle.direct_data.specs.Pushing.{accepted, partNow}
+use Rattle.direct_data.specs.Pushing.{partNow}
 use Rattle.direct_data.proofs.Pushes.{accepted-of, part-tried}
 use Rattle.direct_data.proofs.part_out.Statement.{statement}
 use Rattle.direct_data.proofs.part_out.Tie as tie

@@ -1,5 +1,5 @@
 -- `direct_data::put_part` meets its contract. Assumes nothing.
-use mathlib.Core.Path.{refl, sym, ap, _∙_}
+use mathlib.Core.Path.{refl, ap, _∙_}
 use native.Mathlib.Omega.{arith}
 use borrow.Author.Needs.{needs}
 use borrow.Author.Tests.{lt-ltb, le-ltb}
@@ -18,7 +18,7 @@ use Rattle.direct_data.proofs.put_part.Tie as tie
 empty : tie.Need-returns
 empty c =
     let a = c .before .before .before .before .before .before .before .args in
-    let n = part-read (now (a .rec)) (now (a .lent)) (c .before .before .number .ensures) (c .before .carried .ensures) in
+    let n = ap length (part-read (now (a .rec)) (now (a .lent)) (c .before .carried .ensures) (c .before .before .number .ensures)) in
     done-out (ltb 0 (length (partIn (now (a .rec)) (now (a .lent))))) (now (a .rec)) _ _ _ _ _ (now (a .out)) (le-ltb 0 (length (partIn (now (a .rec)) (now (a .lent)))) (omega (arith, n, c .if1 .taken)))
 
 goes : tie.Need-returns-2
@@ -27,7 +27,7 @@ goes c =
     let a = c .before .before .before .before .before .before .before .before .before .before .before .before .before .before .before .args in
     let rec = now (a .rec) in
     let f = c .before .before .before .before .before .before .before .before .before .before .number .ensures in
-    let n = part-read rec (now (a .lent)) f (c .before .before .before .before .before .before .before .before .before .carried .ensures) in
+    let n = ap length (part-read rec (now (a .lent)) (c .before .before .before .before .before .before .before .before .before .carried .ensures) f) in
     done-in (ltb 0 (length (partIn rec (now (a .lent))))) rec (numberIn rec 2) (numberIn rec 3) (numberIn rec 4) (pushStep (numberIn rec 10) 2)
     (R.WriteLent (numberIn rec 10) (length (partIn rec (now (a .lent))))) (now (a .out)) _ _ _ _ _ (lt-ltb 0 (length (partIn rec (now (a .lent)))) (omega (arith, n, c .before .before .before .before .before .before .before .before .if1 .left))) (c .before .before .before .before .before .before .before .before .before .before .before .before .before .before .before .pre) refl refl refl
     (c .before .before .store-push .ensures ∙ rw f) (c .before .before .before .before .before .before .put-two .ensures ∙ rw (f, n))
