@@ -10,6 +10,10 @@ use calls::Opened;
 use calls::open;
 use direct::entry;
 use direct::stat;
+use direct_data::header_out;
+use direct_data::part_out;
+use direct_data::whole_out;
+use direct_path::request;
 use direct_request::sent;
 use record::SIZE;
 use record_store::store;
@@ -24,6 +28,12 @@ const REPLY: usize = 112;
 const TOLD: u32 = 0;
 
 const READ: u32 = 1;
+
+const WRITE_RX: u32 = 2;
+
+const WRITE_LENT: u32 = 3;
+
+const WRITE_BYTES: u32 = 4;
 
 // Opens a session in the record: 0, or 1 or 2, or 3 for a record of another length; a refusal leaves it alone.
 #[no_mangle]
@@ -59,6 +69,9 @@ pub extern "C" fn yuglasno_start(
 {
     if entry(rec, rx, msg, lent, call, out) {
         return TOLD;
+    }
+    if request(rec, rx, msg, lent, call, out) {
+        return WRITE_RX;
     }
     start_anew(rec, rx, msg, lent, call, a, b, out)
 }
@@ -105,6 +118,22 @@ pub extern "C" fn yuglasno_read(
     read_short(rec, rx, msg, lent, count, out)
 }
 
+// The write or the close that was asked for was accepted: of DATA, the short way where it can be.
+fn wrote_data(rec: &mut [u8], rx: &mut [u8], msg: &mut [u8], lent: &[u8], out: &mut [u8]) -> u32
+    ensures { λ r. ⌜ crossed (now (rec .exit)) (now (rx .exit)) (now (msg .exit)) (now (out .exit)) r ≡ crossWrote (now (rec .entry)) (now (rx .entry)) (now (msg .entry)) (now (lent .entry)) (now (out .entry)) ⌝ }
+{
+    if part_out(rec, rx, msg, lent, out) {
+        return WRITE_LENT;
+    }
+    if header_out(rec, rx, msg, lent, out) {
+        return WRITE_BYTES;
+    }
+    if whole_out(rec, rx, msg, lent, out) {
+        return WRITE_RX;
+    }
+    wrote_anew(rec, rx, msg, lent, out)
+}
+
 // The same. A stat whose message is out awaits its reply the short way.
 #[no_mangle]
 pub extern "C" fn yuglasno_wrote(
@@ -119,7 +148,7 @@ pub extern "C" fn yuglasno_wrote(
     if sent(rec, rx, msg, lent, out) {
         return READ;
     }
-    wrote_anew(rec, rx, msg, lent, out)
+    wrote_data(rec, rx, msg, lent, out)
 }
 
 // What was asked for came to a fault: kind 0 closed, any other an error with its code.

@@ -14,7 +14,7 @@ sent c = was-taken _ _ _ _ _ (c .before .before .before .before .before .sent .e
 anew : tie.Need-returns-2
 anew c =
     let a = c .before .before .before .before .before .before .before .before .before .before .before .before .before .before .before .before .before .before .before .before .before .before .before .before .before .before .before .before .args in
-    c .before .before .before .before .before .before .before .before .wrote-anew .ensures
+    c .before .before .before .before .before .before .before .before .wrote-data .ensures
     ∙ ap (λ (x : Crossed). crossWrote (x .rec) (x .rx) (x .msg) (now (a .lent)) (x .out)) (was-left _ _ _ _ _ (c .before .before .before .before .before .before .before .before .before .before .before .before .before .before .before .before .before .before .sent .ensures) (c .before .before .before .before .before .before .before .before .before .before .before .before .before .if1 .left))
 
 pub yuglasno-wrote-spec : {M : Type 1} → statement M
