@@ -54,29 +54,16 @@ accepted-of rec x m l k o e =
     let (t, p) = and-eq-true-iff (eqb (numberIn rec 7) 9) (eqb (numberIn rec 11) k) .0 d in
     record { state = eqb-true _ _ t; piece = eqb-true _ _ p; stands = stands-of rec x m s; same = eqb-true _ _ q; room = leb-true _ _ r }
 
+pub stands-inside : (rec : List ℕ) (x m : ℕ) → Stands rec x m → numberIn rec 3 ≤ x
+stands-inside rec x m h = omega (arith, h .inside, h .rx)
+
 -- a message of data is its header and the data
 data-length : (x : List ℕ) → length (bytesOfRequest published (meant Q.Data x)) ≡ 8 + length x
 unfolding bytesOfRequest messageOf
 data-length x =
     length-append (letters DATA ++ word (length x)) (x ++ []) ∙ rw (header-bytes DATA (length x)) (ap (λ (l : List ℕ). 8 + length l) (append-nil x))
 
--- no message carries more
-pub at-most : (from : ℕ) (lent : List ℕ) → length (carried Q.Data from lent) ≤ dataMost
-unfolding carried
-at-most from lent = omega (arith, length-take dataMost (drop from lent))
-
--- what a message carries, as the code reads it
-module _ (rec lent : List ℕ) {f : ℕ} {p : List ℕ} (q : p ≡ carried Q.Data f lent) where
-  pub part-read : f ≡ numberIn rec 10 → p ≡ partIn rec lent
-  part-read e = q ∙ ap (λ (k : ℕ). carried Q.Data k lent) e
-
-  pub next-read : f ≡ nextIn rec lent → p ≡ nextPart rec lent
-  next-read e = q ∙ ap (λ (k : ℕ). carried Q.Data k lent) e
-
-pub stands-inside : (rec : List ℕ) (x m : ℕ) → Stands rec x m → numberIn rec 3 ≤ x
-stands-inside rec x m h = omega (arith, h .inside, h .rx)
-
--- it has two pieces
+-- ... and has two pieces
 second-end : (n : ℕ) → End ≡ pieceOf Q.Data n 2
 unfolding pieceOf pieceList
 second-end n = go (eqb n 0)
@@ -84,6 +71,15 @@ second-end n = go (eqb n 0)
     go : (b : Bool) → End ≡ getD (headerOf Q.Data n ∷ pick b [] (Lent ∷ [])) 2 End
     go true = refl
     go false = refl
+
+-- none carries more
+pub at-most : (from : ℕ) (lent : List ℕ) → length (carried Q.Data from lent) ≤ dataMost
+unfolding carried
+at-most from lent = omega (arith, length-take dataMost (drop from lent))
+
+-- what one carries, as the code reads it
+pub read-at : (lent : List ℕ) {f g : ℕ} {p : List ℕ} → p ≡ carried Q.Data f lent → f ≡ g → p ≡ carried Q.Data g lent
+read-at lent q e = q ∙ ap (λ (k : ℕ). carried Q.Data k lent) e
 
 -- the next message, as it is composed
 pub composed-whole : (rec rx lent : List ℕ) {at n : ℕ} {p x : List ℕ} → (x, n) ≡ placed rx at (bytesOfRequest published (meant Q.Data p))

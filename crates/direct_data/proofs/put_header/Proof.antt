@@ -12,7 +12,7 @@ use Rattle.request.specs.declared.Request.the-variants as Q
 use Rattle.session.specs.declared.Reply.the-variants as R
 use Rattle.standing.specs.Standing.{numberIn}
 use Rattle.direct_data.specs.Pushing.{nextIn, nextPart, pushStep, fits, headerGoes}
-use Rattle.direct_data.proofs.Pushes.{at-most, next-read}
+use Rattle.direct_data.proofs.Pushes.{at-most, read-at}
 use Rattle.direct_data.proofs.put_header.Statement.{statement}
 use Rattle.direct_data.proofs.put_header.Tie as tie
 
@@ -20,20 +20,20 @@ empty : tie.Need-returns
 empty c =
     let a = c .before .before .before .before .before .before .before .before .before .before .before .args in
     let rec = now (a .rec) in
-    let n = ap length (next-read rec (now (a .lent)) (c .before .carried .ensures) (c .before .before .next .ensures)) in
+    let n = ap length (read-at (now (a .lent)) (c .before .carried .ensures) (c .before .before .next .ensures)) in
     done-out (headerGoes rec (now (a .rx)) (now (a .lent))) rec _ _ _ _ _ (now (a .out))
     (rw (eq-eqb (numberIn rec 2) 0 (omega arith), le-ltb 0 (length (nextPart rec (now (a .lent)))) (omega (arith, n, c .if2 .taken))))
 
 parts : tie.Need-fits-requires
 parts c κs =
     let a = c .before .before .before .before .before .before .before .before .before .before .before .before .args in
-    (c .before .before .before .before .before .before .before .before .before .before .before .before .pre .1, rw (next-read (now (a .rec)) (now (a .lent)) (c .before .before .carried .ensures) (c .before .before .before .next .ensures)) (at-most _ (now (a .lent))))
+    (c .before .before .before .before .before .before .before .before .before .before .before .before .pre .1, rw (read-at (now (a .lent)) (c .before .before .carried .ensures) (c .before .before .before .next .ensures)) (at-most _ (now (a .lent))))
 
 whole : tie.Need-returns-2
 whole c =
     let a = c .before .before .before .before .before .before .before .before .before .before .before .before .before .before .args in
     let rec = now (a .rec) in
-    let n = ap length (next-read rec (now (a .lent)) (c .before .before .before .before .carried .ensures) (c .before .before .before .before .before .next .ensures)) in
+    let n = ap length (read-at (now (a .lent)) (c .before .before .before .before .carried .ensures) (c .before .before .before .before .before .next .ensures)) in
     done-out (headerGoes rec (now (a .rx)) (now (a .lent))) rec _ _ _ _ _ (now (a .out))
     (rw (
       eq-eqb (numberIn rec 2) 0 (omega arith),
@@ -46,7 +46,7 @@ unfolding replyBytes
 goes c =
     let a = c .before .before .before .before .before .before .before .before .before .before .before .before .before .before .before .before .before .before .before .before .before .before .args in
     let rec = now (a .rec) in
-    let n = ap length (next-read rec (now (a .lent)) (c .before .before .before .before .before .before .before .before .before .before .before .before .carried .ensures) (c .before .before .before .before .before .before .before .before .before .before .before .before .before .next .ensures)) in
+    let n = ap length (read-at (now (a .lent)) (c .before .before .before .before .before .before .before .before .before .before .before .before .carried .ensures) (c .before .before .before .before .before .before .before .before .before .before .before .before .before .next .ensures)) in
     done-in (headerGoes rec (now (a .rx)) (now (a .lent))) rec (numberIn rec 2) (numberIn rec 3) (numberIn rec 4) (pushStep (nextIn rec (now (a .lent))) 1)
     (R.WriteBytes (headerOf Q.Data (length (nextPart rec (now (a .lent)))))) (now (a .out)) _ _ _ _ _
     (rw (

@@ -17,7 +17,7 @@ use Rattle.request.specs.declared.Request.the-variants as Q
 use Rattle.session.specs.declared.Reply.the-variants as R
 use Rattle.standing.specs.Standing.{numberIn}
 use Rattle.direct_data.specs.Pushing.{nextIn, nextPart, pushStep, fits, wholeGoes}
-use Rattle.direct_data.proofs.Pushes.{at-most, next-read, composed-whole}
+use Rattle.direct_data.proofs.Pushes.{at-most, read-at, composed-whole}
 use Rattle.direct_data.proofs.put_whole.Statement.{statement}
 use Rattle.direct_data.proofs.put_whole.Tie as tie
 
@@ -25,14 +25,14 @@ empty : tie.Need-returns
 empty c =
     let a = c .before .before .before .before .before .before .before .before .before .before .before .args in
     let rec = now (a .rec) in
-    let n = ap length (next-read rec (now (a .lent)) (c .before .carried .ensures) (c .before .before .next .ensures)) in
+    let n = ap length (read-at (now (a .lent)) (c .before .carried .ensures) (c .before .before .next .ensures)) in
     written-out (wholeGoes rec (now (a .rx)) (now (a .lent))) rec _ _ _ _ _ (now (a .out)) (now (a .rx)) _
     (rw (eq-eqb (numberIn rec 2) 0 (omega arith), le-ltb 0 (length (nextPart rec (now (a .lent)))) (omega (arith, n, c .if2 .taken))))
 
 parts : tie.Need-fits-requires
 parts c κs =
     let a = c .before .before .before .before .before .before .before .before .before .before .before .before .args in
-    (c .before .before .before .before .before .before .before .before .before .before .before .before .pre .1, rw (next-read (now (a .rec)) (now (a .lent)) (c .before .before .carried .ensures) (c .before .before .before .next .ensures)) (at-most _ (now (a .lent))))
+    (c .before .before .before .before .before .before .before .before .before .before .before .before .pre .1, rw (read-at (now (a .lent)) (c .before .before .carried .ensures) (c .before .before .before .next .ensures)) (at-most _ (now (a .lent))))
 
 goes : tie.Need-returns-2
 unfolding replyBytes
@@ -42,7 +42,7 @@ goes c =
     let rx = now (a .rx) in
     let lent = now (a .lent) in
     let part = nextPart rec lent in
-    let p = next-read rec lent (c .before .before .before .before .before .before .before .before .before .before .before .before .before .before .before .before .before .before .carried .ensures) (c .before .before .before .before .before .before .before .before .before .before .before .before .before .before .before .before .before .before .before .next .ensures) in
+    let p = read-at lent (c .before .before .before .before .before .before .before .before .before .before .before .before .before .before .before .before .before .before .carried .ensures) (c .before .before .before .before .before .before .before .before .before .before .before .before .before .before .before .before .before .before .before .next .ensures) in
     let n = ap length p in
     let t = c .before .before .before .before .before .before .before .before .before .before .before .before .number2 .ensures in
     let f = ap (λ k. fits rec (length rx) k) (sym n) ∙ sym (c .before .before .before .before .before .before .before .before .before .before .before .before .before .before .before .fits2 .ensures) ∙ c .before .before .before .before .before .before .before .before .before .before .before .before .before .before .if3 .taken in
@@ -61,7 +61,7 @@ apart : tie.Need-returns-3
 apart c =
     let a = c .before .before .before .before .before .before .before .before .before .before .before .before .before .before .args in
     let rec = now (a .rec) in
-    let n = ap length (next-read rec (now (a .lent)) (c .before .before .before .before .carried .ensures) (c .before .before .before .before .before .next .ensures)) in
+    let n = ap length (read-at (now (a .lent)) (c .before .before .before .before .carried .ensures) (c .before .before .before .before .before .next .ensures)) in
     written-out (wholeGoes rec (now (a .rx)) (now (a .lent))) rec _ _ _ _ _ (now (a .out)) (now (a .rx)) _
     (rw (
       eq-eqb (numberIn rec 2) 0 (omega arith),
