@@ -14,10 +14,10 @@ use Rattle.session.specs.Host.{Run, over-with, unended, grantRead, grant
 
 abbrev pub AllAccepted : List Entry → Type 0
 AllAccepted [] = Unit {0}
-AllAccepted (x ∷ xs) = (x .outcome ≡ accepted) × AllAccepted xs
+AllAccepted (x ∷ xs) = (x .broken ≡ []) × AllAccepted xs
 
 abbrev Kept : {X : Type 0} → Run X → Type 0
-Kept (over-with x rx msg a w) = w .outcome ≡ accepted
+Kept (over-with x rx msg a w) = w .broken ≡ []
 Kept unended = Unit {0}
 
 module _ {X : Type 0} (E : Engine X) (h : Host) (accepts : (i : ℕ) → h .writes i ≡ accepted) where
@@ -26,8 +26,8 @@ module _ {X : Type 0} (E : Engine X) (h : Host) (accepts : (i : ℕ) → h .writ
     kept-unless true o x = x
     kept-unless false o x = tt
 
-    module _ (k : World → Step X → Run X) (on : (w : World) (s : Step X) → w .outcome ≡ accepted → Kept (k w s)) (w : World) (s : Step X)
-        (e : w .outcome ≡ accepted) where
+    module _ (k : World → Step X → Run X) (on : (w : World) (s : Step X) → w .broken ≡ [] → Kept (k w s)) (w : World) (s : Step X)
+        (e : w .broken ≡ []) where
       read-kept : (a : Ask) (l : List ℕ) → Kept (grantRead E h lent k w s a l)
       read-kept a [] = on (hasRead 0 a w) _ e
       read-kept a (b ∷ bs) = on (hasRead (counted (h .count (w .reads)) (a .len) (length (w .left))) a w) _ e
@@ -53,7 +53,7 @@ module _ {X : Type 0} (E : Engine X) (h : Host) (accepts : (i : ℕ) → h .writ
       granted-kept (writeBytes b) = write-kept b
       granted-kept close = close-kept (h .close)
 
-    run-kept : (n : ℕ) (w : World) (s : Step X) → w .outcome ≡ accepted → Kept (run E h lent n w s)
+    run-kept : (n : ℕ) (w : World) (s : Step X) → w .broken ≡ [] → Kept (run E h lent n w s)
     unfolding run
     run-kept zero w s e = tt
     run-kept (suc n) w s e = granted-kept (λ w′ s′. run E h lent n w′ s′) (λ w′ s′ e′. run-kept n w′ s′ e′) w s e (s .show)

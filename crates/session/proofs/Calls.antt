@@ -11,7 +11,7 @@ use Rattle.protocol.specs.Answers as P
 use Rattle.protocol.specs.Answers.{closed, error}
 use Rattle.protocol.specs.Calls.{v1, v2, Call, call, nextEntry, nextChunk, chunks, cut, refusal, messages}
 use Rattle.protocol.specs.Messages.{stat, sta2, list, lis2, recv, ask, rcv2, send, snd2, chunk, done, quit, messageOf}
-use Rattle.protocol.specs.Reader.{answer, plain, Config, Report, accepted, broke, written, writeBroke, Reply, isQuit, after}
+use Rattle.protocol.specs.Reader.{answer, plain, Config, Report, written, writeBroke, Reply, isQuit, after}
 use Rattle.request.specs.Meaning.{meant}
 use Rattle.request.specs.declared.Request.{Request}
 use Rattle.request.specs.declared.Request.the-variants as Q
@@ -35,7 +35,7 @@ use Rattle.session.proofs.Follows.{Breaks, header-ok, plain-breaks, pus
 use Rattle.session.proofs.Refusals.{openOf, Begins, begins, refused}
 use Rattle.session.proofs.Run.{configOf, Comes, fault-told}
 use Rattle.session.proofs.Sends.{path-ok, bare-ok}
-use Rattle.session.proofs.Site.{Site, all, Goes, later, started, Mid, mid-started, mid-tidied, LetIn, all-is}
+use Rattle.session.proofs.Site.{once, Site, all, Goes, later, started, Mid, mid-started, mid-tidied, LetIn, all-is}
 use Rattle.session.proofs.Turns.{held, cont, restOf}
 
 -- ---- a call that is let in
@@ -52,7 +52,7 @@ module _ (h : Host) (w : World) (s : St) (good : Good s) (live : s .ses .ended �
   starts : (q : Call) → LetIn (at q) → (rq : Request) → Breaks (at q) (later (at q)) rq → isQuit q ≡ false
       → messages q ≡ meant rq (lentOf q) ∷ [] → carried rq 0 (lentOf q) ≡ lentOf q → ((t : St) → resumed t rq 0 (lentOf q) ≡ told t A.Done)
       → written (configOf (s .ses) (h .close)) q ≡ answer P.done → length (w .left) + 7 ≤ enough q w
-      → Goes (at q) (enough q w) (w .writes) [] accepted (beside (messageOut (begun (s .ses) (length (lentOf q))) (s .rx) rq 0 (lentOf q)) (s .msg))
+      → Goes (at q) (enough q w) (w .writes) [] [] (beside (messageOut (begun (s .ses) (length (lentOf q))) (s .rx) rq 0 (lentOf q)) (s .msg))
   starts q lets rq breaks stays one carries goes ends l =
       path-ok (at q) lets good live rq breaks (done-follows (at q) lets rq stays goes ends) (enough q w) one carries (omega arith)
 
@@ -60,8 +60,8 @@ module _ (h : Host) (w : World) (s : St) (good : Good s) (live : s .ses .ended �
   reads : (q : Call) → LetIn (at q) → (f i : ℕ) (xs : List (List ℕ)) (t : St) (x : Want) → isQuit q ≡ false → later (at q) ≤ f → Mid (at q) t → xs ≡ all (at q)
       → ((msg y : List ℕ) → plain (s .ses .capacity) (written (configOf (s .ses) (h .close)) q) y
       ≡ plain (s .ses .capacity) (restOf (s .ses .capacity) msg (Header x)) y)
-      → Goes (at q) f i xs accepted (readOn t (Header x) false)
-  reads q lets f i xs t x stays l m e goes = header-ok (at q) lets stays f i xs accepted t x false live l m e goes (fault-told (h .end))
+      → Goes (at q) f i xs [] (readOn t (Header x) false)
+  reads q lets f i xs t x stays l m e goes = header-ok (at q) lets stays f i xs [] t x false live l m e goes (fault-told (h .end))
 
   -- stat: its reply follows
   stat-ok : (q : Call) → LetIn (at q) → (rq : Request) (x : Want) → Breaks (at q) (later (at q)) rq → isQuit q ≡ false
@@ -70,18 +70,18 @@ module _ (h : Host) (w : World) (s : St) (good : Good s) (live : s .ses .ended �
       → ((msg y : List ℕ) → plain (s .ses .capacity) (written (configOf (s .ses) (h .close)) q) y
       ≡ plain (s .ses .capacity) (restOf (s .ses .capacity) msg (Header x)) y)
       → length (w .left) + 7 ≤ enough q w
-      → Goes (at q) (enough q w) (w .writes) [] accepted (beside (messageOut (begun (s .ses) (length (lentOf q))) (s .rx) rq 0 (lentOf q)) (s .msg))
+      → Goes (at q) (enough q w) (w .writes) [] [] (beside (messageOut (begun (s .ses) (length (lentOf q))) (s .rx) rq 0 (lentOf q)) (s .msg))
   stat-ok q lets rq x breaks stays one carries resumes goes l =
       path-ok (at q) lets good live rq breaks (λ f i t m y. rw (resumes t) (reads q lets f i (all (at q)) t x stays m y refl goes)) (enough q w) one carries (omega arith)
 
   quit-breaks : LetIn (at (call quit)) → Breaks (at (call quit)) (later (at (call quit))) Q.Quit
   unfolding writeFault writeBroke
-  quit-breaks lets f i xs rest t closed l x split =
-      close-ok (at (call quit)) lets f i xs (broke closed) false 0 t live refl (omega arith) x (rest, split) refl
-  quit-breaks lets f i xs rest t (error k) l x split =
-      close-ok (at (call quit)) lets f i xs (broke (error k)) true k t live refl (omega arith) x (rest, split) refl
+  quit-breaks lets f i xs b rest t closed l x split =
+      close-ok (at (call quit)) lets f i xs (once xs b closed) false 0 t live refl (omega arith) x (rest, (split, refl)) refl
+  quit-breaks lets f i xs b rest t (error k) l x split =
+      close-ok (at (call quit)) lets f i xs (once xs b (error k)) true k t live refl (omega arith) x (rest, (split, refl)) refl
 
-  open-ok : (q : Call) → LetIn (at q) → Goes (at q) (enough q w) (w .writes) [] accepted (openOf q s)
+  open-ok : (q : Call) → LetIn (at q) → Goes (at q) (enough q w) (w .writes) [] [] (openOf q s)
   unfolding messages carried sent writeFault writeBroke written resumed cont wants messageOf cut
   open-ok (call (ask stat p)) lets =
       let c : Site = at (call (ask stat p)) in
@@ -124,7 +124,7 @@ module _ (h : Host) (w : World) (s : St) (good : Good s) (live : s .ses .ended �
   open-ok (call quit) lets =
       let c : Site = at (call quit) in
       bare-ok c lets good live Q.Quit (quit-breaks lets)
-      (λ f i t l x. close-ok c lets f i (all c) accepted false 0 t live refl (omega arith) x refl refl)
+      (λ f i t l x. close-ok c lets f i (all c) [] false 0 t live refl (omega arith) x refl refl)
       (enough (c .call) w) refl refl refl (omega arith)
   open-ok (nextEntry v1) lets =
       let c : Site = at (nextEntry v1) in

@@ -2,7 +2,7 @@
 -- Assumes nothing.
 use Prim.Native.Nat.{ℕ, zero, suc, _+_, _-_, _*_, _≤_, _<_, min}
 use mathlib.Core.Bool.{false}
-use mathlib.Core.List.{List, _++_, append-assoc, append-nil}
+use mathlib.Core.List.{List, [], _++_, append-assoc, append-nil}
 use mathlib.Core.Path.{_≡_, refl, sym, ap, _∙_}
 use native.Mathlib.Decide.{decLe}
 use native.Mathlib.Omega.{arith}
@@ -11,7 +11,7 @@ use lib.ListN.{length, drop, length-take, length-drop}
 use Rattle.protocol.specs.Calls.{call, cutBy, chunks}
 use Rattle.protocol.specs.Ids.{published}
 use Rattle.protocol.specs.Messages.{chunk, pieces, dataMost}
-use Rattle.protocol.specs.Reader.{accepted, written}
+use Rattle.protocol.specs.Reader.{written}
 use Rattle.request.specs.declared.Request.the-variants as Q
 use Rattle.session.specs.declared.Answer.the-variants as A
 use Rattle.session.specs.Faithful.{piecesOf}
@@ -40,7 +40,7 @@ module _ (h : Host) (w : World) (s : St) (x : List ℕ) where
   abbrev pub Cuts : ℕ → ℕ → Type 0
   Cuts m from =
       (f i : ℕ) (xs : List (List ℕ)) (t : St) → Mid sending t → all sending ≡ xs ++ pieces-left m from → later sending + 5 * length (left m from) ≤ f
-      → Goes sending f i xs accepted (beside (sent (t .ses) (t .rx) Q.Data from (carried Q.Data from x)) (t .msg))
+      → Goes sending f i xs [] (beside (sent (t .ses) (t .rx) Q.Data from (carried Q.Data from x)) (t .msg))
 
   module _ (lets : LetIn sending) (live : s .ses .ended ≡ false) (breaks : Breaks sending (later sending) Q.Data) where
     data-none : (m from : ℕ) → length (drop from x) ≡ 0 → Cuts m from
@@ -48,7 +48,7 @@ module _ (h : Host) (w : World) (s : St) (x : List ℕ) where
     data-none m from z f i xs t y e l =
         let k : length (carried Q.Data from x) ≡ 0 = rw (part-is x from) (omega (arith, length-take dataMost (drop from x))) in
         rw (eq-eqb (length (carried Q.Data from x)) 0 k)
-        (told-ok sending lets refl f i xs accepted t A.Done (omega arith) y
+        (told-ok sending lets refl f i xs [] t A.Done (omega arith) y
         (sym (e ∙ ap (λ (b : List (List ℕ)). xs ++ piecesOf published (free sending) (chunks b)) (cut-none m (drop from x) z) ∙ append-nil xs)) refl)
 
     data-some : (m from : ℕ) → 0 < length (drop from x) → Cuts m (next x from) → Cuts (suc m) from
@@ -63,7 +63,7 @@ module _ (h : Host) (w : World) (s : St) (x : List ℕ) where
         e ∙ ap (λ (b : List (List ℕ)). xs ++ piecesOf published (free sending) (chunks b)) (cut-some m x from p) ∙ sym (append-assoc xs ps rest) in
         rw (ne-eqb (length part) 0 (omega (arith, length-drop from x)))
         (message-ok sending live Q.Data (later sending + 5 * length (left m (next x from)))
-        (λ f′ i′ xs′ r′ t′ e′ l′. breaks f′ i′ xs′ r′ t′ e′ (omega arith))
+        (λ f′ i′ xs′ b′ r′ t′ e′ l′. breaks f′ i′ xs′ b′ r′ t′ e′ (omega arith))
         from part (omega (arith, length-drop from x)) (rw (part-is x from) (take-taken dataMost (drop from x))) refl (xs ++ ps) rest upto
         (λ f′ i′ t′ l′ y′. go f′ i′ (xs ++ ps) t′ y′ upto l′) f i xs t (omega arith) y refl)
 

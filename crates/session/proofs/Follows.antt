@@ -2,7 +2,7 @@
 -- Assumes nothing.
 use Prim.Native.Nat.{ℕ, zero, suc, _+_, _≤_, _<_}
 use mathlib.Core.Bool.{Bool, true, false}
-use mathlib.Core.List.{List, _++_}
+use mathlib.Core.List.{List, [], _∷_, _++_}
 use mathlib.Core.Path.{_≡_, refl, sym, ap, _∙_, subst}
 use native.Mathlib.Omega.{arith}
 use lib.ListN.{length}
@@ -21,7 +21,7 @@ use Rattle.session.specs.declared.Want.{Want}
 use Rattle.session.specs.declared.Want.the-variants as W
 use Rattle.session.specs.Core.{faultOf, stepOf, core}
 use Rattle.session.specs.Faithful.{Accepted}
-use Rattle.session.specs.Host.{World, hasClosed, grantClose, run}
+use Rattle.session.specs.Host.{Broken, World, outcomeOf, hasClosed, grantClose, run}
 use Rattle.session.specs.Phases.{wants}
 use Rattle.session.specs.Reports.{faultAnswer, pushFault, writeFault, wroteAt, faultAt, closedOut}
 use Rattle.session.specs.Shown.{paper}
@@ -30,58 +30,58 @@ use Rattle.session.specs.State.{St, st, Out, shut}
 use Rattle.session.specs.Steps.{readOn, told, closingOut, resumed}
 use Rattle.session.proofs.Buf.{good-pending}
 use Rattle.session.proofs.Run.{configIn, configOf, Heeds, fault-step, wrote-step, fault-told, run-told, reading-ok}
-use Rattle.session.proofs.Site.{Site, lent, reader, all, unread, Ok, wrote, Goes, later, started, Mid, mid-pending, mid-runs, mid-lends, LetIn, program-is}
+use Rattle.session.proofs.Site.{once, Site, lent, reader, all, unread, Ok, wrote, Goes, later, started, Mid, mid-pending, mid-runs, mid-lends, LetIn, program-is}
 use Rattle.session.proofs.Turns.{held, cont, restOf, Frame, frameOf, at, Kept, kept-eq, pumped-ok}
 
 -- a frame, after quit
 abbrev ended : Frame → Frame
 ended φ = record { capacity = φ .capacity; message = φ .message; lent = φ .lent; features = φ .features; ended = true }
 
--- What a fault of the request's writes comes to; xs were accepted before it.
+-- What a fault of the request's writes comes to: of the piece b, behind the pieces xs that were accepted.
 abbrev pub Breaks : Site → ℕ → Request → Type 0
 Breaks c n rq =
-    (f i : ℕ) (xs rest : List (List ℕ)) (t : St) (e : End) → n ≤ f → Mid c t → all c ≡ xs ++ rest
-    → Goes c f i xs (broke e) (writeFault t rq (faultOf e))
+    (f i : ℕ) (xs : List (List ℕ)) (b : List ℕ) (rest : List (List ℕ)) (t : St) (e : End) → n ≤ f → Mid c t → all c ≡ xs ++ b ∷ rest
+    → Goes c f i xs (once xs b e) (writeFault t rq (faultOf e))
 
 module _ (c : Site) (lets : LetIn c) where
   module _ (stays : isQuit (c .call) ≡ false) where
     config : configOf (started c .ses) (c .host .close) ≡ after (reader c) (c .call)
     config = rw stays
 
-    heeds : (xs : List (List ℕ)) (i : ℕ) (r : Report) → Accepted r (all c) xs
-        → Heeds (reader c) (c .call) (unread c) (length (held (c .state))) (wrote c i xs r)
-    heeds xs i r a = record { asks = tt; pieces = a; closes = rw stays }
+    heeds : (xs : List (List ℕ)) (i : ℕ) (bs : List Broken) → Accepted (all c) xs bs
+        → Heeds (reader c) (c .call) (unread c) (length (held (c .state))) (wrote c i xs bs)
+    heeds xs i bs a = record { asks = tt; pieces = a; closes = rw stays }
 
     -- an answer ends the call
-    pub told-ok : (f i : ℕ) (xs : List (List ℕ)) (r : Report) (t : St) (a : Answer) → 0 < f → Mid c t → Accepted r (all c) xs
-        → onReport (reader c) r (c .call) ≡ answer (paper (t .rx) (t .msg) a) → Goes c f i xs r (told t a)
+    pub told-ok : (f i : ℕ) (xs : List (List ℕ)) (bs : List Broken) (t : St) (a : Answer) → 0 < f → Mid c t → Accepted (all c) xs bs
+        → onReport (reader c) (outcomeOf bs) (c .call) ≡ answer (paper (t .rx) (t .msg) a) → Goes c f i xs bs (told t a)
     unfolding plain
-    told-ok f i xs r t a l x p e =
-        subst (Ok c) (sym (run-told (c .host) (lent c) f (wrote c i xs r) (st (S.at (t .ses) (t .ses .buf) Idle) (t .rx) (t .msg)) a l))
+    told-ok f i xs bs t a l x p e =
+        subst (Ok c) (sym (run-told (c .host) (lent c) f (wrote c i xs bs) (st (S.at (t .ses) (t .ses .buf) Idle) (t .rx) (t .msg)) a l))
         (record {
           good = good-pending t (x .good) Idle;
           still = refl;
           config = ap (λ (ψ : Frame). configIn ψ (c .host .close)) (x .frame) ∙ config;
-          same = rw (program-is c lets r ∙ e, x .same);
-          heeds = heeds xs i r p;
+          same = rw (program-is c lets (outcomeOf bs) ∙ e, x .same);
+          heeds = heeds xs i bs p;
         })
 
     -- the call reads a header
-    pub header-ok : (f i : ℕ) (xs : List (List ℕ)) (r : Report) (t : St) (x : Want) (lost : Bool) → c .state .ses .ended ≡ false → later c ≤ f
-        → Mid c t → Accepted r (all c) xs
-        → ((msg y : List ℕ) → plain (c .state .ses .capacity) (onReport (reader c) r (c .call)) y
+    pub header-ok : (f i : ℕ) (xs : List (List ℕ)) (bs : List Broken) (t : St) (x : Want) (lost : Bool) → c .state .ses .ended ≡ false → later c ≤ f
+        → Mid c t → Accepted (all c) xs bs
+        → ((msg y : List ℕ) → plain (c .state .ses .capacity) (onReport (reader c) (outcomeOf bs) (c .call)) y
         ≡ plain (c .state .ses .capacity) (restOf (c .state .ses .capacity) msg (Header x)) y)
-        → ((rx msg : List ℕ) → paper rx msg (pick lost A.Closed (faultAnswer (faultOf (c .host .end)))) ≡ P.broken (endOf (c .host .end) r (c .call)))
-        → Goes c f i xs r (readOn t (Header x) lost)
-    header-ok f i xs r t x lost live l m p e z =
+        → ((rx msg : List ℕ) → paper rx msg (pick lost A.Closed (faultAnswer (faultOf (c .host .end)))) ≡ P.broken (endOf (c .host .end) (outcomeOf bs) (c .call)))
+        → Goes c f i xs bs (readOn t (Header x) lost)
+    header-ok f i xs bs t x lost live l m p e z =
         let φ : Frame = frameOf (started c .ses) in
         let o : Out = readOn t (Header x) lost in
-        let G : List ℕ → Result = λ y. plain (c .state .ses .capacity) (program (reader c) r (c .call)) (held t ++ y) in
-        reading-ok (c .host) (reader c) (c .call) (unread c) (length (held (c .state))) φ lost r live refl config z f (wrote c i xs r) (held t) o
+        let G : List ℕ → Result = λ y. plain (c .state .ses .capacity) (program (reader c) (outcomeOf bs) (c .call)) (held t ++ y) in
+        reading-ok (c .host) (reader c) (c .call) (unread c) (length (held (c .state))) φ lost (outcomeOf bs) live refl config z f (wrote c i xs bs) (held t) o
         (omega arith) refl
-        (ap (λ (y : List ℕ). y ++ c .world .left) (sym (m .same))) (heeds xs i r p)
+        (ap (λ (y : List ℕ). y ++ c .world .left) (sym (m .same))) (heeds xs i bs p)
         (kept-eq φ lost G (at t (Header x)) o
-        (λ y. ap (λ (k : Prog). plain (c .state .ses .capacity) k (held t ++ y)) (program-is c lets r) ∙ e (t .msg) (held t ++ y)
+        (λ y. ap (λ (k : Prog). plain (c .state .ses .capacity) k (held t ++ y)) (program-is c lets (outcomeOf bs)) ∙ e (t .msg) (held t ++ y)
         ∙ ap (λ (ψ : Frame). plain (ψ .capacity) (restOf (ψ .capacity) (t .msg) (Header x)) (held t ++ y)) (sym (m .frame)))
         (subst (λ (ψ : Frame). Kept ψ lost (at t (Header x)) o) (m .frame) (pumped-ok t (Header x) lost (m .good) tt)))
 
@@ -89,30 +89,30 @@ module _ (c : Site) (lets : LetIn c) where
     pub plain-breaks : (rq : Request) → ((t : St) (e : Fault) → writeFault t rq e ≡ told t (faultAnswer e))
         → ((e : End) → writeBroke (reader c) e (c .call) ≡ answer (P.broken e))
         → Breaks c (later c) rq
-    plain-breaks rq faults breaks f i xs rest t e l x split =
+    plain-breaks rq faults breaks f i xs b rest t e l x split =
         rw (faults t (faultOf e))
-        (told-ok f i xs (broke e) t (faultAnswer (faultOf e)) (omega arith) x (rest, split)
+        (told-ok f i xs (once xs b e) t (faultAnswer (faultOf e)) (omega arith) x (rest, (split, refl))
         (breaks e ∙ ap answer (sym (fault-told e (t .rx) (t .msg)))))
 
     pub push-breaks : (rq : Request) → c .state .ses .ended ≡ false → ((t : St) (e : Fault) → writeFault t rq e ≡ pushFault t e)
         → ((e : End) → writeBroke (reader c) e (c .call) ≡ pushBroke (reader c) e)
         → endOf (c .host .end) (broke closed) (c .call) ≡ closed → Breaks c (later c) rq
     unfolding paper cont wants
-    push-breaks rq live faults breaks ends f i xs rest t closed l x split =
+    push-breaks rq live faults breaks ends f i xs b rest t closed l x split =
         rw (faults t (faultOf closed))
-        (header-ok f i xs (broke closed) t W.Nothing true live l x (rest, split)
+        (header-ok f i xs (once xs b closed) t W.Nothing true live l x (rest, (split, refl))
         (λ msg y. ap (λ (k : Prog). plain (c .state .ses .capacity) k y) (breaks closed)) (λ rx msg. ap P.broken (sym ends)))
-    push-breaks rq live faults breaks ends f i xs rest t (error k) l x split =
-        rw (faults t (faultOf (error k))) (told-ok f i xs (broke (error k)) t (A.Error k) (omega arith) x (rest, split) (breaks (error k)))
+    push-breaks rq live faults breaks ends f i xs b rest t (error k) l x split =
+        rw (faults t (faultOf (error k))) (told-ok f i xs (once xs b (error k)) t (A.Error k) (omega arith) x (rest, (split, refl)) (breaks (error k)))
 
   -- quit: the close, after the write came to an error or not
-  pub close-ok : (f i : ℕ) (xs : List (List ℕ)) (r : Report) (failed : Bool) (code : ℕ) (t : St) → c .state .ses .ended ≡ false
+  pub close-ok : (f i : ℕ) (xs : List (List ℕ)) (bs : List Broken) (failed : Bool) (code : ℕ) (t : St) → c .state .ses .ended ≡ false
       → isQuit (c .call) ≡ true → 1 < f → Mid c t
-      → Accepted r (all c) xs → onReport (reader c) r (c .call) ≡ answer (pick failed (P.broken (error code)) (closing (c .host .close)))
-      → Goes c f i xs r (closingOut t failed code)
+      → Accepted (all c) xs bs → onReport (reader c) (outcomeOf bs) (c .call) ≡ answer (pick failed (P.broken (error code)) (closing (c .host .close)))
+      → Goes c f i xs bs (closingOut t failed code)
   unfolding run plain paper wroteAt faultAt
-  close-ok zero i xs r failed code t live quits l x p e = absurd (omega arith)
-  close-ok (suc f) i xs r failed code t live quits l x p e = go (c .host .close) refl
+  close-ok zero i xs bs failed code t live quits l x p e = absurd (omega arith)
+  close-ok (suc f) i xs bs failed code t live quits l x p e = go (c .host .close) refl
     where
       t₁ : St
       t₁ = st (S.at (t .ses) (t .ses .buf) (Closing failed code)) (t .rx) (t .msg)
@@ -121,7 +121,7 @@ module _ (c : Site) (lets : LetIn c) where
       x₁ = mid-pending c t (Closing failed code) x
 
       w₁ : World
-      w₁ = hasClosed (wrote c i xs r)
+      w₁ = hasClosed (wrote c i xs bs)
 
       -- the host reported of the close what a says
       over : (a : Answer) → closing (c .host .close) ≡ paper (t .rx) (t .msg) a
@@ -134,7 +134,7 @@ module _ (c : Site) (lets : LetIn c) where
             good = record { order = x .good .order; inside = x .good .inside; rx = x .good .rx; least = x .good .least; aside = x .good .aside; msg = x .good .msg };
             still = refl;
             config = rw quits (ap (λ (ψ : Frame). configIn (ended ψ) (c .host .close)) (x .frame));
-            same = rw (program-is c lets r ∙ e ∙ ap answer (told failed), x .same);
+            same = rw (program-is c lets (outcomeOf bs) ∙ e ∙ ap answer (told failed), x .same);
             heeds = record { asks = tt; pieces = p; closes = rw (quits, live) };
           })
         where
@@ -143,7 +143,7 @@ module _ (c : Site) (lets : LetIn c) where
           told false = z
 
       go : (z : Report) → c .host .close ≡ z
-          → Ok c (grantClose core (c .host) (lent c) (λ w′ s′. run core (c .host) (lent c) f w′ s′) (wrote c i xs r) (stepOf (closingOut t failed code)) z)
+          → Ok c (grantClose core (c .host) (lent c) (λ w′ s′. run core (c .host) (lent c) f w′ s′) (wrote c i xs bs) (stepOf (closingOut t failed code)) z)
       go accepted z =
           rw (wrote-step t₁ (length (lent c)) (x₁ .good) (mid-runs c t₁ x₁ live) (mid-lends c t₁ x₁) (Closing failed code) refl refl (lent c) refl)
           (over A.Done (ap closing z))
@@ -153,9 +153,9 @@ module _ (c : Site) (lets : LetIn c) where
 
   -- what follows the call's writes
   abbrev pub Follows : Request → Type 0
-  Follows rq = (f i : ℕ) (t : St) → later c ≤ f → Mid c t → Goes c f i (all c) accepted (resumed t rq 0 (lent c))
+  Follows rq = (f i : ℕ) (t : St) → later c ≤ f → Mid c t → Goes c f i (all c) [] (resumed t rq 0 (lent c))
 
   pub done-follows : (rq : Request) → isQuit (c .call) ≡ false → ((t : St) → resumed t rq 0 (lent c) ≡ told t A.Done)
       → written (reader c) (c .call) ≡ answer P.done → Follows rq
   unfolding paper
-  done-follows rq stays r e f i t l x = rw (r t) (told-ok stays f i (all c) accepted t A.Done (omega arith) x refl e)
+  done-follows rq stays r e f i t l x = rw (r t) (told-ok stays f i (all c) [] t A.Done (omega arith) x refl e)

@@ -11,12 +11,12 @@ use Rattle.protocol.specs.Answers.{Answer, End}
 use Rattle.protocol.specs.Calls.{Call, refusal, messages, joinedMessages}
 use Rattle.protocol.specs.Ids.{Dialect}
 use Rattle.protocol.specs.Messages.{Request, joined, pieces}
-use Rattle.protocol.specs.Reader.{Config, Report, accepted, after, plainCall, unlessWritten, writes, plainAnswers, plainWrites}
+use Rattle.protocol.specs.Reader.{Config, accepted, after, plainCall, unlessWritten, writes, plainAnswers, plainWrites}
 use Rattle.protocol.proofs.Messages.{pieces-joined}
 use Rattle.reader.specs.Wider.{unreadAt}
 use Rattle.session.specs.Demand3.{answersOf, writtenOf, ReadsAt, ClosesAt, unreads}
 use Rattle.session.specs.Faithful.{AllAtNeeds, piecesOf, unlessPieces, callPieces, Accepted, AsReader, Faithful}
-use Rattle.session.specs.Host.{Entry}
+use Rattle.session.specs.Host.{Broken, outcomeOf, Entry}
 use Rattle.session.proofs.Accepts.{AllAccepted}
 
 -- ---- the pieces of a call, joined, are what it writes
@@ -45,13 +45,13 @@ record Told (g : Config) (e : End) (q : Call) (v : List ℕ) (x : Entry) : Type 
   asks : AllAtNeeds g accepted q v (x .pieces) (x .asks)
   written : joined (x .pieces) ≡ writes g q
 
-told : (g : Config) (e : End) (q : Call) (v : List ℕ) (x : Entry) → x .outcome ≡ accepted → AsReader g e q v x → Told g e q v x
+told : (g : Config) (e : End) (q : Call) (v : List ℕ) (x : Entry) → x .broken ≡ [] → AsReader g e q v x → Told g e q v x
 told g e q v x o r =
     record {
-      answer = subst (λ (t : Report). x .answer ≡ plainCall g e t q v .answer) o (r .answer);
-      unread = subst (λ (t : Report). x .unread ≡ plainCall g e t q v .unread) o (r .unread);
-      asks = subst (λ (t : Report). AllAtNeeds g t q v (x .pieces) (x .asks)) o (r .asks);
-      written = ap joined (subst (λ (t : Report). Accepted t (callPieces g q (length (x .held))) (x .pieces)) o (r .pieces)) ∙ joined-call g q
+      answer = subst (λ (bs : List Broken). x .answer ≡ plainCall g e (outcomeOf bs) q v .answer) o (r .answer);
+      unread = subst (λ (bs : List Broken). x .unread ≡ plainCall g e (outcomeOf bs) q v .unread) o (r .unread);
+      asks = subst (λ (bs : List Broken). AllAtNeeds g (outcomeOf bs) q v (x .pieces) (x .asks)) o (r .asks);
+      written = ap joined (subst (λ (bs : List Broken). Accepted (callPieces g q (length (x .held))) (x .pieces) bs) o (r .pieces)) ∙ joined-call g q
           (length (x .held));
     }
 

@@ -31,7 +31,7 @@ use Rattle.session.specs.declared.Session.{Session}
 use Rattle.session.specs.Calls.{isIdle}
 use Rattle.session.specs.Core.{faultOf, stepOf, core}
 use Rattle.session.specs.Faithful.{AtNeed, AllAtNeeds, callPieces, Accepted, closesFor}
-use Rattle.session.specs.Host.{Step, Host, Ask, World, hasRead, counted, filling, windowed, lentOf, Run, over-with, unended, grantRead, granted, run}
+use Rattle.session.specs.Host.{Step, Host, Ask, World, outcomeOf, hasRead, counted, filling, windowed, lentOf, Run, over-with, unended, grantRead, granted, run}
 use Rattle.session.specs.Phases.{wants}
 use Rattle.session.specs.Reports.{reportRefusal, refusalAt, readIn, readAt, reportRead, wroteAt, reportWrote, faultAnswer, faultAt, reportFault}
 use Rattle.session.specs.Shown.{paper}
@@ -54,8 +54,8 @@ configOf s z = configIn (frameOf s) z
 -- What the world w has of a call is the plain reader's: each read asked at a need, the pieces accepted, the closes. The unread bytes
 -- were v, n of them held.
 pub record Heeds (g : Config) (q : Call) (v : List ℕ) (n : ℕ) (w : World) : Type 0 where
-  pub asks : AllAtNeeds g (w .outcome) q v (w .pieces) (w .asks)
-  pub pieces : Accepted (w .outcome) (callPieces g q n) (w .pieces)
+  pub asks : AllAtNeeds g (outcomeOf (w .broken)) q v (w .pieces) (w .asks)
+  pub pieces : Accepted (callPieces g q n) (w .pieces) (w .broken)
   pub closes : w .closes ≡ closesFor (isQuit q) (g .setting .ended) (w .pieces)
 
 -- A call that is over: so is what it answers and what is left unread, and the next call finds a session as the plain reader is then.
@@ -63,7 +63,7 @@ pub record Over (g : Config) (e : End) (q : Call) (v : List ℕ) (n : ℕ) (t : 
   pub good : Good t
   pub still : t .ses .pending ≡ Idle
   pub config : configOf (t .ses) (g .close) ≡ after g q
-  pub same : plainCall g e (w .outcome) q v ≡ record { answer = a; unread = held t ++ w .left }
+  pub same : plainCall g e (outcomeOf (w .broken)) q v ≡ record { answer = a; unread = held t ++ w .left }
   pub heeds : Heeds g q v n w
 
 abbrev pub Comes : Config → End → Call → List ℕ → ℕ → Run Session → Type 0
@@ -124,11 +124,11 @@ module _ (h : Host) (g : Config) (q : Call) (v : List ℕ) (n : ℕ) (φ : Frame
   Ok o = Comes g (h .end) q v n o
 
   -- one step of the run, in the world w where the bytes u of v have come
-  module _ (w : World) (u : List ℕ) (t : St) (is : w .outcome ≡ r) (come : v ≡ u ++ w .left) (heeds : Heeds g q v n w)
+  module _ (w : World) (u : List ℕ) (t : St) (is : outcomeOf (w .broken) ≡ r) (come : v ≡ u ++ w .left) (heeds : Heeds g q v n w)
       (k : World → Step Session → Run Session)
       (ends : (w′ : World) (t′ : St) (a : Answer) → k w′ (stepOf (telling t′ a)) ≡ over-with (t′ .ses) (t′ .rx) (t′ .msg)
       (paper (t′ .rx) (t′ .msg) a) w′)
-      (on : (w′ : World) (u′ : List ℕ) (o : Out) → length (w′ .left) < length (w .left) → w′ .outcome ≡ r → v ≡ u′ ++ w′ .left → Heeds g q v n w′
+      (on : (w′ : World) (u′ : List ℕ) (o : Out) → length (w′ .left) < length (w .left) → outcomeOf (w′ .broken) ≡ r → v ≡ u′ ++ w′ .left → Heeds g q v n w′
       → Kept φ lost (λ x. G (u′ ++ x)) o → Ok (k w′ (stepOf o))) where
     module _ (i len : ℕ) (p : Phase) (x : Waits φ (λ y. G (u ++ y)) lost t i len p) where
       abbrev ask : Ask
@@ -146,7 +146,7 @@ module _ (h : Host) (g : Config) (q : Call) (v : List ℕ) (n : ℕ) (φ : Frame
           x .same y ∙ plain-short (t .ses .capacity) (wants (t .ses .capacity) p) (cont (t .ses .capacity) (t .msg) p) (held t ++ y) (x .fits)
           (omega (arith, x, length-append (held t) y))
 
-      at-need : AtNeed g (w .outcome) q v (w .pieces) ask
+      at-need : AtNeed g (outcomeOf (w .broken)) q v (w .pieces) ask
       at-need =
           record {
             come = u;
@@ -251,7 +251,7 @@ module _ (h : Host) (g : Config) (q : Call) (v : List ℕ) (n : ℕ) (φ : Frame
     reply-ok (R.WriteBytes b) x = absurd x
     reply-ok R.Close x = absurd x
 
-  pub reading-ok : (f : ℕ) (w : World) (u : List ℕ) (o : Out) → length (w .left) + 1 < f → w .outcome ≡ r → v ≡ u ++ w .left → Heeds g q v n w
+  pub reading-ok : (f : ℕ) (w : World) (u : List ℕ) (o : Out) → length (w .left) + 1 < f → outcomeOf (w .broken) ≡ r → v ≡ u ++ w .left → Heeds g q v n w
       → Kept φ lost (λ x. G (u ++ x)) o → Ok (run core h (lentOf q) f w (stepOf o))
   unfolding run
   reading-ok zero w u o l is come heeds x = absurd (omega arith)

@@ -34,7 +34,7 @@ use Rattle.session.specs.Steps.{tidied, carried, pieceReply, sendPiece, 
 use Rattle.session.proofs.Buf.{sound-of}
 use Rattle.session.proofs.Follows.{Breaks, Follows}
 use Rattle.session.proofs.Run.{fault-step, wrote-step}
-use Rattle.session.proofs.Site.{Site, lent, free, all, Ok, wrote, Goes, later, started, Mid, mid-started, mid-pending, mid-tidied, mid-runs, mid-lends, LetIn, all-is}
+use Rattle.session.proofs.Site.{once, Site, lent, free, all, Ok, wrote, Goes, later, started, Mid, mid-started, mid-pending, mid-tidied, mid-runs, mid-lends, LetIn, all-is}
 use Rattle.session.proofs.Turns.{held, Frame}
 use Rattle.session.proofs.Writes.{bytesIn, apart-pieces, Sent, pieces-sent, piece-at, drop-rest, wrote-last, wrote-more, placed-good, placed-held, placed-there, placed-inside, message-whole, message-apart, pieces-whole, pieces-apart, pieces-bare}
 
@@ -43,23 +43,23 @@ module _ (c : Site) where
     -- the host is handed a piece b
     write-ok : (f i : ℕ) (xs rest : List (List ℕ)) (b : List ℕ) (t : St) (o : Reply) (from k : ℕ) → n ≤ f → Mid c t
         → t .ses .pending ≡ Writing rq from k → all c ≡ xs ++ b ∷ rest
-        → Goes c f (i + 1) (xs ++ b ∷ []) accepted (wroteOn t rq from k (lent c))
+        → Goes c f (i + 1) (xs ++ b ∷ []) [] (wroteOn t rq from k (lent c))
         → (r : Report)
-        → Ok c (grantWrite core (c .host) (lent c) (λ w′ s′. run core (c .host) (lent c) f w′ s′) (wrote c i xs accepted)
+        → Ok c (grantWrite core (c .host) (lent c) (λ w′ s′. run core (c .host) (lent c) f w′ s′) (wrote c i xs [])
         (stepOf (record { st = t; reply = o })) b r)
     unfolding wroteAt faultAt
     write-ok f i xs rest b t o from k l x pend e on accepted =
-        subst (λ (y : Out). Goes c f (i + 1) (xs ++ b ∷ []) accepted y)
+        subst (λ (y : Out). Goes c f (i + 1) (xs ++ b ∷ []) [] y)
         (sym (wrote-step t (length (lent c)) (x .good) (mid-runs c t x live) (mid-lends c t x) (Writing rq from k) pend refl (lent c) refl)) on
     write-ok f i xs rest b t o from k l x pend e on (broke d) =
-        subst (λ (y : Out). Goes c f (i + 1) xs (broke d) y)
+        subst (λ (y : Out). Goes c f (i + 1) xs (once xs b d) y)
         (sym (fault-step t (length (lent c)) (x .good) (mid-runs c t x live) (mid-lends c t x) (Writing rq from k) pend refl (faultOf d)))
-        (breaks f (i + 1) xs (b ∷ rest) t d l x e)
+        (breaks f (i + 1) xs b rest t d l x e)
 
     -- A message that carries `part`, from `from` on; ys are the call's pieces up to its last.
     module _ (from : ℕ) (part : List ℕ) (fits : from + length part ≤ length (lent c)) (there : take (length part) (drop from (lent c)) ≡ part)
         (carries : carried rq from (lent c) ≡ part) (ys todo : List (List ℕ)) (upto : all c ≡ ys ++ todo)
-        (on : (f i : ℕ) (t : St) → n ≤ f → Mid c t → Goes c f i ys accepted (resumed t rq from (lent c))) where
+        (on : (f i : ℕ) (t : St) → n ≤ f → Mid c t → Goes c f i ys [] (resumed t rq from (lent c))) where
       granted-piece : (k : World → Step Session → Run Session) (w′ : World) (s′ : Step Session) (p : Piece)
           → granted core (c .host) (lent c) k w′ s′ (showOf (s′ .rx) (s′ .msg) (pieceReply from (length part) p))
           ≡ grantWrite core (c .host) (lent c) k w′ s′ (bytesIn part p) (c .host .writes (w′ .writes))
@@ -75,8 +75,8 @@ module _ (c : Site) where
       piece-ok : (f i k : ℕ) (xs : List (List ℕ)) (t : St) (p : Piece) (ps : List Piece) → n ≤ f → Mid c t
           → drop k (pieceList rq (length part)) ≡ p ∷ ps
           → ys ≡ xs ++ bytesIn part p ∷ map (bytesIn part) ps
-          → ((t′ : St) → Mid c t′ → Goes c f (i + 1) (xs ++ bytesIn part p ∷ []) accepted (wroteOn t′ rq from (k + 1) (lent c)))
-          → Goes c (suc f) i xs accepted (out (sendPiece (t .ses) rq from (length part) k) (t .rx) (t .msg))
+          → ((t′ : St) → Mid c t′ → Goes c f (i + 1) (xs ++ bytesIn part p ∷ []) [] (wroteOn t′ rq from (k + 1) (lent c)))
+          → Goes c (suc f) i xs [] (out (sendPiece (t .ses) rq from (length part) k) (t .rx) (t .msg))
       unfolding run
       piece-ok f i k xs t p ps l x at-k e next =
           let t₁ : St = st (at (t .ses) (t .ses .buf) (Writing rq from (k + 1))) (t .rx) (t .msg) in
@@ -84,7 +84,7 @@ module _ (c : Site) where
           let o : Reply = pieceReply from (length part) p in
           rw (piece-at rq (length part) k (p ∷ ps) at-k)
           (subst (Ok c)
-          (sym (granted-piece (λ w′ s′. run core (c .host) (lent c) f w′ s′) (wrote c i xs accepted) (stepOf (record { st = t₁; reply = o })) p))
+          (sym (granted-piece (λ w′ s′. run core (c .host) (lent c) f w′ s′) (wrote c i xs []) (stepOf (record { st = t₁; reply = o })) p))
           (write-ok f i xs (map (bytesIn part) ps ++ todo) (bytesIn part p) t₁ o from (k + 1) l x₁ refl
           (upto ∙ ap (λ (y : List (List ℕ)). y ++ todo) e ∙ append-assoc xs (bytesIn part p ∷ map (bytesIn part) ps) todo)
           (next t₁ x₁) (c .host .writes i)))
@@ -92,7 +92,7 @@ module _ (c : Site) where
       -- a piece was accepted, and ps are still to go
       pieces-ok : (ps : List Piece) (m f i k : ℕ) (xs : List (List ℕ)) (t : St) → Sent m ps → n + m ≤ f → 0 < k → Mid c t
           → drop k (pieceList rq (length part)) ≡ ps
-          → ys ≡ xs ++ map (bytesIn part) ps → Goes c f i xs accepted (wroteOn t rq from k (lent c))
+          → ys ≡ xs ++ map (bytesIn part) ps → Goes c f i xs [] (wroteOn t rq from k (lent c))
       pieces-ok [] m f i k xs t z l p x at-k e =
           rw (wrote-last t rq from k (lent c) p (rw carries at-k), sym (append-nil xs) ∙ sym e) (on f i t (omega arith) x)
       pieces-ok (b ∷ ps) zero f i k xs t z l p x at-k e = absurd z
@@ -106,7 +106,7 @@ module _ (c : Site) where
 
       -- the message goes out in pieces, from the first
       pub apart-ok : (f i : ℕ) (xs : List (List ℕ)) (t : St) → n + 5 ≤ f → Mid c t → ys ≡ xs ++ apart published (meant rq part)
-          → Goes c f i xs accepted (out (sendPiece (t .ses) rq from (length part) 0) (t .rx) (t .msg))
+          → Goes c f i xs [] (out (sendPiece (t .ses) rq from (length part) 0) (t .rx) (t .msg))
       unfolding pieceList
       apart-ok zero i xs t l x e = absurd (omega arith)
       apart-ok (suc f) i xs t l x e =
@@ -120,7 +120,7 @@ module _ (c : Site) where
       -- .. or whole, from the free end of the buffer
       whole-ok : (f i : ℕ) (xs : List (List ℕ)) (t : St) (m : List ℕ) → n < f → Mid c t → length (held t) + length m ≤ t .ses .capacity
           → ys ≡ xs ++ m ∷ []
-          → Goes c f i xs accepted (record {
+          → Goes c f i xs [] (record {
             st = st (at (t .ses) ((tidied t) .ses .buf) (Writing rq from 0)) (over ((tidied t) .rx) ((tidied t) .ses .buf .tail) m) (t .msg);
             reply = R.WriteRx ((tidied t) .ses .buf .tail) (length m);
           })
@@ -140,7 +140,7 @@ module _ (c : Site) where
 
       pub message-ok : (f i : ℕ) (xs : List (List ℕ)) (t : St) → n + 5 ≤ f → Mid c t
           → ys ≡ xs ++ pieces published (free c) (meant rq part)
-          → Goes c f i xs accepted (beside (messageOut (t .ses) (t .rx) rq from part) (t .msg))
+          → Goes c f i xs [] (beside (messageOut (t .ses) (t .rx) rq from part) (t .msg))
       message-ok f i xs t l x e = go (decLe (length m) (free c))
         where
           m : List ℕ
@@ -152,7 +152,7 @@ module _ (c : Site) where
           count : length (held t) ≡ length (held (c .state))
           count = ap length (x .same)
 
-          go : Dec (length m ≤ free c) → Goes c f i xs accepted (beside (messageOut (t .ses) (t .rx) rq from part) (t .msg))
+          go : Dec (length m ≤ free c) → Goes c f i xs [] (beside (messageOut (t .ses) (t .rx) rq from part) (t .msg))
           go (yes fit) =
               let within = held-length (t .rx) (t .ses .buf) (sound-of t (x .good)) in
               let room : length (held t) + length m ≤ t .ses .capacity = omega (arith, x .good, size, count) in
@@ -168,7 +168,7 @@ module _ (c : Site) where
   module _ (lets : LetIn c) (good : Good (c .state)) (live : c .state .ses .ended ≡ false) (rq : Request) (breaks : Breaks c (later c) rq)
       (on : Follows c lets rq) where
     pub path-ok : (f : ℕ) → messages (c .call) ≡ meant rq (lent c) ∷ [] → carried rq 0 (lent c) ≡ lent c → later c + 5 ≤ f
-        → Goes c f (c .world .writes) [] accepted (beside (messageOut (started c .ses) (c .state .rx) rq 0 (lent c)) (c .state .msg))
+        → Goes c f (c .world .writes) [] [] (beside (messageOut (started c .ses) (c .state .rx) rq 0 (lent c)) (c .state .msg))
     path-ok f one carries l =
         message-ok live rq (later c) breaks 0 (lent c) (omega arith) (take-length (lent c)) carries (all c) [] (sym (append-nil (all c))) on f
         (c .world .writes) [] (started c) l (mid-started c good)
@@ -176,7 +176,7 @@ module _ (c : Site) where
 
     pub bare-ok : (f : ℕ) → messages (c .call) ≡ meant rq [] ∷ [] → messageOf published (meant rq []) .parts ≡ [] → carried rq 0 (lent c) ≡ []
         → later c + 5 ≤ f
-        → Goes c f (c .world .writes) [] accepted (out (sendPiece (started c .ses) rq 0 0 0) (c .state .rx) (c .state .msg))
+        → Goes c f (c .world .writes) [] [] (out (sendPiece (started c .ses) rq 0 0 0) (c .state .rx) (c .state .msg))
     bare-ok f one bare carries l =
         apart-ok live rq (later c) breaks 0 [] (omega arith) refl carries (all c) [] (sym (append-nil (all c))) on f (c .world .writes) []
         (started c) l (mid-started c good)

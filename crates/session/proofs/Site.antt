@@ -2,11 +2,11 @@
 -- Assumes nothing.
 use Prim.Native.Nat.{ℕ, _+_, _-_}
 use mathlib.Core.Bool.{false}
-use mathlib.Core.List.{List, [], _++_}
+use mathlib.Core.List.{List, [], _∷_, _++_}
 use mathlib.Core.Option.{Option, none}
 use mathlib.Core.Path.{_≡_, refl, ap, _∙_}
 use lib.ListN.{length}
-use Rattle.protocol.specs.Answers.{Answer}
+use Rattle.protocol.specs.Answers.{Answer, End}
 use Rattle.protocol.specs.Calls.{Call, refusal, messages}
 use Rattle.protocol.specs.Ids.{published}
 use Rattle.protocol.specs.Reader.{Config, Report, unless, onReport, program}
@@ -15,12 +15,16 @@ use Rattle.session.specs.declared.Session.{Session}
 use Rattle.session.specs.Calls.{settingOf}
 use Rattle.session.specs.Core.{stepOf, core}
 use Rattle.session.specs.Faithful.{piecesOf, unlessPieces, callPieces}
-use Rattle.session.specs.Host.{Host, World, lentOf, Run, run}
+use Rattle.session.specs.Host.{Host, Broken, World, lentOf, Run, run}
 use Rattle.session.specs.State.{St, st, Out, at, begun, Good}
 use Rattle.session.specs.Steps.{tidied}
 use Rattle.session.proofs.Buf.{good-pending, good-tidied, held-tidied}
 use Rattle.session.proofs.Run.{configOf, Comes}
 use Rattle.session.proofs.Turns.{held, Frame, frameOf}
+
+-- the piece b came to the fault e, behind the pieces xs
+abbrev pub once : List (List ℕ) → List ℕ → End → List Broken
+once xs b e = record { piece = b; fault = e; before = xs } ∷ []
 
 -- a call of a session, with its buffers, against a host in some world
 pub record Site : Type 0 where
@@ -49,13 +53,13 @@ module _ (c : Site) where
   abbrev pub Ok : Run Session → Type 0
   Ok o = Comes reader (c .host .end) (c .call) unread (length (held (c .state))) o
 
-  -- the world after i writes in all, where xs of the call's pieces were accepted, and r reported
-  abbrev pub wrote : ℕ → List (List ℕ) → Report → World
-  wrote i xs r = record { left = c .world .left; reads = c .world .reads; writes = i; asks = []; pieces = xs; outcome = r; closes = [] }
+  -- the world after i writes in all, where xs of the call's pieces were accepted, and bs came to a fault
+  abbrev pub wrote : ℕ → List (List ℕ) → List Broken → World
+  wrote i xs bs = record { left = c .world .left; reads = c .world .reads; writes = i; asks = []; pieces = xs; broken = bs; closes = [] }
 
   -- from there, with f steps left, the call comes to what the plain reader does, if the session's last step was o
-  abbrev pub Goes : ℕ → ℕ → List (List ℕ) → Report → Out → Type 0
-  Goes f i xs r o = Ok (run core (c .host) lent f (wrote i xs r) (stepOf o))
+  abbrev pub Goes : ℕ → ℕ → List (List ℕ) → List Broken → Out → Type 0
+  Goes f i xs bs o = Ok (run core (c .host) lent f (wrote i xs bs) (stepOf o))
 
   -- the steps that what follows a write may take: a read for each byte to come, the end error, the answer; or the close and the answer
   abbrev pub later : ℕ

@@ -10,8 +10,8 @@ use Rattle.protocol.specs.Answers.{Answer, End}
 use Rattle.protocol.specs.Calls.{Call, messages, refusal}
 use Rattle.protocol.specs.Ids.{Dialect}
 use Rattle.protocol.specs.Messages.{Request, pieces}
-use Rattle.protocol.specs.Reader.{Config, Report, accepted, broke, short, plain, program, after, plainCall, isQuit}
-use Rattle.session.specs.Host.{Ask, Entry}
+use Rattle.protocol.specs.Reader.{Config, Report, short, plain, program, after, plainCall, isQuit}
+use Rattle.session.specs.Host.{Ask, Broken, outcomeOf, Entry}
 
 -- A read asked at a need of the plain reader, with r reported of the call's writes: of the unread bytes v the reader is given those
 -- that have come, and falls short at need(n), n ≤ c; what it has unread there is what the session holds, fewer than n bytes; the
@@ -44,10 +44,12 @@ unlessPieces none ps = ps
 abbrev pub callPieces : Config → Call → ℕ → List (List ℕ)
 callPieces g q n = unlessPieces (refusal (g .setting) q) (piecesOf (g .setting .dialect) (g .capacity - n) (messages q))
 
--- "W keeps the pieces accepted, each whole": all of them, or the first of them
-abbrev pub Accepted : Report → List (List ℕ) → List (List ℕ) → Type 0
-Accepted accepted ps xs = xs ≡ ps
-Accepted (broke e) ps xs = (rest : List (List ℕ)) × (ps ≡ xs ++ rest)
+-- "W keeps the pieces accepted, each whole": all of the call's pieces ps; or those before the one that came to a fault. That one was
+-- offered once ("It never retries"), and none behind it.
+abbrev pub Accepted : List (List ℕ) → List (List ℕ) → List Broken → Type 0
+Accepted ps xs [] = xs ≡ ps
+Accepted ps xs (b ∷ []) = (rest : List (List ℕ)) × ((ps ≡ xs ++ b .piece ∷ rest) × (b .before ≡ xs))
+Accepted ps xs (b ∷ b′ ∷ bs) = ⊥
 
 -- one close for a quit that is not refused, behind the call's pieces ps, and no other
 abbrev pub closesFor : (quits ended : Bool) → List (List ℕ) → List (List (List ℕ))
@@ -57,10 +59,10 @@ closesFor false ended ps = []
 
 -- a call of the log, on the unread bytes v
 pub record AsReader (g : Config) (e : End) (q : Call) (v : List ℕ) (x : Entry) : Type 0 where
-  pub answer : x .answer ≡ plainCall g e (x .outcome) q v .answer
-  pub unread : x .unread ≡ plainCall g e (x .outcome) q v .unread
-  pub asks : AllAtNeeds g (x .outcome) q v (x .pieces) (x .asks)
-  pub pieces : Accepted (x .outcome) (callPieces g q (length (x .held))) (x .pieces)
+  pub answer : x .answer ≡ plainCall g e (outcomeOf (x .broken)) q v .answer
+  pub unread : x .unread ≡ plainCall g e (outcomeOf (x .broken)) q v .unread
+  pub asks : AllAtNeeds g (outcomeOf (x .broken)) q v (x .pieces) (x .asks)
+  pub pieces : Accepted (callPieces g q (length (x .held))) (x .pieces) (x .broken)
   pub closes : x .closes ≡ closesFor (isQuit q) (g .setting .ended) (x .pieces)
 
 -- an entry for each call, each as the plain reader has it

@@ -57,35 +57,46 @@ pub record Ask : Type 0 where
   pub len : ℕ
   pub before : List (List ℕ)
 
--- Bytes still to come; reads and writes so far. Of this call: the reads asked, the last first; the pieces accepted, in order; the
--- fault of a write, if one came to a fault; for each close asked, the pieces accepted before it.
+-- a write that came to a fault: the piece offered, the fault, the pieces of this call accepted before
+pub record Broken : Type 0 where
+  pub piece : List ℕ
+  pub fault : End
+  pub before : List (List ℕ)
+
+-- Bytes still to come; reads and writes so far. Of this call: the reads asked, the last first; the pieces accepted, in order; the writes
+-- that came to a fault, the last first; for each close asked, the pieces accepted before it.
 pub record World : Type 0 where
   pub left : List ℕ
   pub reads : ℕ
   pub writes : ℕ
   pub asks : List Ask
   pub pieces : List (List ℕ)
-  pub outcome : Report
+  pub broken : List Broken
   pub closes : List (List (List ℕ))
 
+-- what was reported of a call's writes: that all were accepted, or a fault
+abbrev pub outcomeOf : List Broken → Report
+outcomeOf [] = accepted
+outcomeOf (b ∷ bs) = broke (b .fault)
+
 abbrev pub atStart : List ℕ → World
-atStart incoming = record { left = incoming; reads = 0; writes = 0; asks = []; pieces = []; outcome = accepted; closes = [] }
+atStart incoming = record { left = incoming; reads = 0; writes = 0; asks = []; pieces = []; broken = []; closes = [] }
 
 abbrev pub newCall : World → World
-newCall w = record { left = w .left; reads = w .reads; writes = w .writes; asks = []; pieces = []; outcome = accepted; closes = [] }
+newCall w = record { left = w .left; reads = w .reads; writes = w .writes; asks = []; pieces = []; broken = []; closes = [] }
 
 -- n of the bytes to come are read, where the engine asked for a read
 abbrev pub hasRead : ℕ → Ask → World → World
-hasRead n a w = record { left = drop n (w .left); reads = w .reads + 1; writes = w .writes; asks = a ∷ w .asks; pieces = w .pieces; outcome = w .outcome; closes = w .closes }
+hasRead n a w = record { left = drop n (w .left); reads = w .reads + 1; writes = w .writes; asks = a ∷ w .asks; pieces = w .pieces; broken = w .broken; closes = w .closes }
 
 abbrev pub hasWritten : List ℕ → World → World
-hasWritten b w = record { left = w .left; reads = w .reads; writes = w .writes + 1; asks = w .asks; pieces = w .pieces ++ b ∷ []; outcome = w .outcome; closes = w .closes }
+hasWritten b w = record { left = w .left; reads = w .reads; writes = w .writes + 1; asks = w .asks; pieces = w .pieces ++ b ∷ []; broken = w .broken; closes = w .closes }
 
-abbrev pub hasBroken : End → World → World
-hasBroken e w = record { left = w .left; reads = w .reads; writes = w .writes + 1; asks = w .asks; pieces = w .pieces; outcome = broke e; closes = w .closes }
+abbrev pub hasBroken : List ℕ → End → World → World
+hasBroken b e w = record { left = w .left; reads = w .reads; writes = w .writes + 1; asks = w .asks; pieces = w .pieces; broken = record { piece = b; fault = e; before = w .pieces } ∷ w .broken; closes = w .closes }
 
 abbrev pub hasClosed : World → World
-hasClosed w = record { left = w .left; reads = w .reads; writes = w .writes; asks = w .asks; pieces = w .pieces; outcome = w .outcome; closes = w .pieces ∷ w .closes }
+hasClosed w = record { left = w .left; reads = w .reads; writes = w .writes; asks = w .asks; pieces = w .pieces; broken = w .broken; closes = w .pieces ∷ w .closes }
 
 -- a count from one to the smaller of the window and what is left
 abbrev pub counted : ℕ → ℕ → ℕ → ℕ
@@ -126,7 +137,7 @@ module _ {X : Type 0} (E : Engine X) (h : Host) (lent : List ℕ) (k : World →
 
   abbrev pub grantWrite : World → Step X → List ℕ → Report → Run X
   grantWrite w s b accepted = k (hasWritten b w) (E .onWrote (s .x) (s .rx) (s .msg) lent)
-  grantWrite w s b (broke e) = k (hasBroken e w) (E .onFault (s .x) (s .rx) (s .msg) lent e)
+  grantWrite w s b (broke e) = k (hasBroken b e w) (E .onFault (s .x) (s .rx) (s .msg) lent e)
 
   abbrev pub grantClose : World → Step X → Report → Run X
   grantClose w s accepted = k (hasClosed w) (E .onWrote (s .x) (s .rx) (s .msg) lent)
@@ -164,14 +175,14 @@ pub record Entry : Type 0 where
   pub answer : Answer
   pub asks : List Ask
   pub pieces : List (List ℕ)
-  pub outcome : Report
+  pub broken : List Broken
   pub closes : List (List (List ℕ))
   -- the bytes held and still to come when it was over
   pub unread : List ℕ
 
 abbrev pub onRun : {X : Type 0} → Engine X → (held : List ℕ) → (World → X → List ℕ → List ℕ → List Entry) → Run X → List Entry
 onRun E held k (over-with x rx msg a w) =
-    record { held = held; answer = a; asks = w .asks; pieces = w .pieces; outcome = w .outcome; closes = w .closes; unread = E .holds x rx ++ w .left } ∷ k w x rx msg
+    record { held = held; answer = a; asks = w .asks; pieces = w .pieces; broken = w .broken; closes = w .closes; unread = E .holds x rx ++ w .left } ∷ k w x rx msg
 onRun E held k unended = []
 
 -- a list of calls; the log ends early where a call does not end
