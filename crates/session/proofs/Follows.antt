@@ -79,7 +79,7 @@ module _ (c : Site) (lets : LetIn c) where
         let G : List ℕ → Result = λ y. plain (c .state .ses .capacity) (program (reader c) (outcomeOf bs) (c .call)) (held t ++ y) in
         reading-ok (c .host) (reader c) (c .call) (unread c) (length (held (c .state))) φ lost (outcomeOf bs) live refl config z f (wrote c i xs bs) (held t) o
         (omega arith) refl
-        (ap (λ (y : List ℕ). y ++ c .world .left) (sym (m .same))) (heeds xs i bs p)
+        (ap (λ (y : List ℕ). y ++ c .world .left) (sym (m .same))) tt (heeds xs i bs p)
         (kept-eq φ lost G (at t (Header x)) o
         (λ y. ap (λ (k : Prog). plain (c .state .ses .capacity) k (held t ++ y)) (program-is c lets (outcomeOf bs)) ∙ e (t .msg) (held t ++ y)
         ∙ ap (λ (ψ : Frame). plain (ψ .capacity) (restOf (ψ .capacity) (t .msg) (Header x)) (held t ++ y)) (sym (m .frame)))

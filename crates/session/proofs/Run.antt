@@ -30,7 +30,7 @@ use Rattle.session.specs.declared.Reply.the-variants as R
 use Rattle.session.specs.declared.Session.{Session}
 use Rattle.session.specs.Calls.{isIdle}
 use Rattle.session.specs.Core.{faultOf, stepOf, core}
-use Rattle.session.specs.Faithful.{AtNeed, AllAtNeeds, callPieces, Accepted, closesFor}
+use Rattle.session.specs.Faithful.{AtNeed, Brought, AllAtNeeds, callPieces, Accepted, closesFor}
 use Rattle.session.specs.Host.{Step, Host, Ask, World, outcomeOf, hasRead, counted, filling, windowed, lentOf, Run, over-with, unended, grantRead, granted, run}
 use Rattle.session.specs.Phases.{wants}
 use Rattle.session.specs.Reports.{reportRefusal, refusalAt, readIn, readAt, reportRead, wroteAt, reportWrote, faultAnswer, faultAt, reportFault}
@@ -124,11 +124,11 @@ module _ (h : Host) (g : Config) (q : Call) (v : List ℕ) (n : ℕ) (φ : Frame
   Ok o = Comes g (h .end) q v n o
 
   -- one step of the run, in the world w where the bytes u of v have come
-  module _ (w : World) (u : List ℕ) (t : St) (is : outcomeOf (w .broken) ≡ r) (come : v ≡ u ++ w .left) (heeds : Heeds g q v n w)
+  module _ (w : World) (u : List ℕ) (t : St) (is : outcomeOf (w .broken) ≡ r) (come : v ≡ u ++ w .left) (brought : Brought (w .asks)) (heeds : Heeds g q v n w)
       (k : World → Step Session → Run Session)
       (ends : (w′ : World) (t′ : St) (a : Answer) → k w′ (stepOf (telling t′ a)) ≡ over-with (t′ .ses) (t′ .rx) (t′ .msg)
       (paper (t′ .rx) (t′ .msg) a) w′)
-      (on : (w′ : World) (u′ : List ℕ) (o : Out) → length (w′ .left) < length (w .left) → outcomeOf (w′ .broken) ≡ r → v ≡ u′ ++ w′ .left → Heeds g q v n w′
+      (on : (w′ : World) (u′ : List ℕ) (o : Out) → length (w′ .left) < length (w .left) → outcomeOf (w′ .broken) ≡ r → v ≡ u′ ++ w′ .left → Brought (w′ .asks) → Heeds g q v n w′
       → Kept φ lost (λ x. G (u′ ++ x)) o → Ok (k w′ (stepOf o))) where
     module _ (i len : ℕ) (p : Phase) (x : Waits φ (λ y. G (u ++ y)) lost t i len p) where
       abbrev ask : Ask
@@ -161,7 +161,7 @@ module _ (h : Host) (g : Config) (q : Call) (v : List ℕ) (n : ℕ) (φ : Frame
           }
 
       read-heeds : (j : ℕ) → Heeds g q v n (hasRead j ask w)
-      read-heeds j = record { asks = (at-need, heeds .asks); pieces = heeds .pieces; closes = heeds .closes }
+      read-heeds j = record { asks = (at-need, (brought, heeds .asks)); pieces = heeds .pieces; closes = heeds .closes }
 
       -- the window, overwritten: y, and then any bytes
       module _ (f : ℕ → ℕ) (y : List ℕ) (l : length y ≤ len) where
@@ -218,7 +218,7 @@ module _ (h : Host) (g : Config) (q : Call) (v : List ℕ) (n : ℕ) (φ : Frame
           let t₁ : St = st (t .ses) (windowed f (t .rx) i len y) (t .msg) in
           let until : ℕ → Out = λ m. readIn t₁ p (t .ses .buf .head + wants (t .ses .capacity) p) lost m in
           on (hasRead j ask w) (u ++ y) (reportRead t₁ (length (lentOf q)) j) (omega (arith, length-drop j (w .left))) is
-          (come ∙ ap (λ (z : List ℕ). u ++ z) (sym (take-append-drop j (w .left))) ∙ sym (append-assoc u y (drop j (w .left)))) (read-heeds j)
+          (come ∙ ap (λ (z : List ℕ). u ++ z) (sym (take-append-drop j (w .left))) ∙ sym (append-assoc u y (drop j (w .left)))) (omega arith) (read-heeds j)
           (subst (λ (o : Out). Kept φ lost (λ z. G (u ++ y ++ z)) o)
           (sym (read-step t₁ (length (lentOf q)) (window-good f y (omega arith)) ended lends _ (x .pend) refl j))
           (kept-eq φ lost (λ z. G (u ++ y ++ z)) (λ z. G (u ++ (y ++ z))) (until j) (λ z. ap G (append-assoc u y z))
@@ -251,10 +251,10 @@ module _ (h : Host) (g : Config) (q : Call) (v : List ℕ) (n : ℕ) (φ : Frame
     reply-ok (R.WriteBytes b) x = absurd x
     reply-ok R.Close x = absurd x
 
-  pub reading-ok : (f : ℕ) (w : World) (u : List ℕ) (o : Out) → length (w .left) + 1 < f → outcomeOf (w .broken) ≡ r → v ≡ u ++ w .left → Heeds g q v n w
+  pub reading-ok : (f : ℕ) (w : World) (u : List ℕ) (o : Out) → length (w .left) + 1 < f → outcomeOf (w .broken) ≡ r → v ≡ u ++ w .left → Brought (w .asks) → Heeds g q v n w
       → Kept φ lost (λ x. G (u ++ x)) o → Ok (run core h (lentOf q) f w (stepOf o))
   unfolding run
-  reading-ok zero w u o l is come heeds x = absurd (omega arith)
-  reading-ok (suc f) w u o l is come heeds x =
-      reply-ok w u (o .st) is come heeds (λ w′ s′. run core h (lentOf q) f w′ s′) (λ w′ t a. run-told h (lentOf q) f w′ t a (omega arith))
-      (λ w′ u′ o′ m is′ come′ heeds′ y. reading-ok f w′ u′ o′ (omega arith) is′ come′ heeds′ y) (o .reply) x
+  reading-ok zero w u o l is come brought heeds x = absurd (omega arith)
+  reading-ok (suc f) w u o l is come brought heeds x =
+      reply-ok w u (o .st) is come brought heeds (λ w′ s′. run core h (lentOf q) f w′ s′) (λ w′ t a. run-told h (lentOf q) f w′ t a (omega arith))
+      (λ w′ u′ o′ m is′ come′ brought′ heeds′ y. reading-ok f w′ u′ o′ (omega arith) is′ come′ brought′ heeds′ y) (o .reply) x

@@ -27,9 +27,16 @@ pub record AtNeed (g : Config) (r : Report) (q : Call) (v : List ℕ) (ps : List
   pub inside : a .at + a .len ≡ g .capacity
   pub behind : a .before ≡ ps
 
+-- of the reads asked so far, the last first: bytes were still to come when the last was asked, so it brought some
+abbrev pub Brought : List Ask → Type 0
+Brought [] = Unit {0}
+Brought (a ∷ more) = 0 < length (a .rest)
+
+-- Every read asked, the last first: each at a need, and each but the last brought some bytes. A read that comes to the end error is the
+-- last of the call.
 abbrev pub AllAtNeeds : Config → Report → Call → List ℕ → List (List ℕ) → List Ask → Type 0
 AllAtNeeds g r q v ps [] = Unit {0}
-AllAtNeeds g r q v ps (a ∷ more) = AtNeed g r q v ps a × AllAtNeeds g r q v ps more
+AllAtNeeds g r q v ps (a ∷ more) = AtNeed g r q v ps a × (Brought more × AllAtNeeds g r q v ps more)
 
 -- the pieces of some messages, with `free` bytes in the free end of the buffer
 abbrev pub piecesOf : Dialect → ℕ → List Request → List (List ℕ)
