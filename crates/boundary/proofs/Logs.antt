@@ -27,6 +27,7 @@ use Rattle.session.specs.declared.Session.{Session}
 use Rattle.session.specs.Core as C
 use Rattle.session.specs.Core.{askOf, faultOf, showOf, begin, core}
 use Rattle.session.specs.Demand3.{Coded, CodedReport, Wide, AllWide}
+use Rattle.session.specs.EveryHost.{CodedHost}
 use Rattle.session.specs.Host.{Step, Host, Ask, World, newCall, hasRead, counted, filling, lentOf, Run, over-with, unended, grantRead, grantWrite, grantClose, granted, run, enough, runCall, Entry, onRun, logOf}
 use Rattle.session.specs.Reports.{reportRead, reportWrote, reportFault}
 use Rattle.session.specs.State.{St, st, Out, at}
@@ -68,12 +69,6 @@ lent-wide (call (done t)) w = omega arith
 lent-wide (call quit) w = omega arith
 lent-wide (nextEntry v) w = omega arith
 lent-wide nextChunk w = omega arith
-
--- the codes of the host's errors have 32 bits
-pub record CodedHost (h : Host) : Type 0 where
-  pub writes : (i : ℕ) → CodedReport (h .writes i)
-  pub close : CodedReport (h .close)
-  pub end : Coded (h .end)
 
 pub coded-narrow : (e : End) → Coded e → NarrowFault (faultOf e)
 coded-narrow closed c = tt

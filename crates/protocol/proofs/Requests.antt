@@ -12,8 +12,9 @@ use lib.Dec.{ltb}
 use lib.ListN.{length, take, drop, length-append, length-drop, take-append-drop}
 use lib.Seq.{take-at, drop-at, take-add, length-take-le}
 use Rattle.protocol.specs.Bytes.{Bytes, numberAt}
+use Rattle.protocol.specs.Headers.{Accepted, Heads, of-path, of-RCV2, of-SEND, of-SND2, of-DATA, of-DONE, of-QUIT}
 use Rattle.protocol.specs.Ids.{Id, STAT, STA2, LIST, LIS2, SEND, SND2, RECV, RCV2, DATA, DONE, OKAY, FAIL, DENT, DNT2, QUIT, Dialect, named}
-use Rattle.protocol.specs.Messages.{PathOnly, stat, sta2, list, lis2, recv, pathId, Request, chunk, word, messageOf, joined, bytesOfRequest, HostWrites}
+use Rattle.protocol.specs.Messages.{stat, sta2, list, lis2, recv, Request, chunk, word, messageOf, joined, bytesOfRequest, HostWrites}
 use Rattle.protocol.specs.Records.{headerSize, idAt, argAt}
 use Rattle.protocol.specs.Requests.{Read, more, refused, request, kindOf, argOk, following, bodyOf, onId, readRequest}
 use Rattle.protocol.proofs.Bodies.{Taken, pick-cases, Reads, reads, Means, means}
@@ -21,23 +22,6 @@ use Rattle.protocol.proofs.Messages.{kind-path}
 use Rattle.protocol.proofs.Bytes.{bytes-drop}
 use Rattle.protocol.proofs.Ids.{Sound, named-own, named-sound}
 use Rattle.protocol.proofs.Words.{bytes-take, word-fits, word-behind, word-there}
-
--- What is accepted of s: a request that the host would write, or DATA of length 0, and its bytes are the first n of s.
-pub record Accepted (d : Dialect) (s : List ℕ) (q : Request) (n : ℕ) : Type 0 where
-  pub taken : HostWrites d q ⊎ (q ≡ chunk [])
-  pub written : take n s ≡ bytesOfRequest d q
-  pub within : n ≤ length s
-
--- The headers that are not 18, and how long a message with such a header is: "18 if the id is none of the host's eleven (the eight
--- requests above, DATA, DONE, QUIT), if arg exceeds 65,536 (65,547 for SEND), or QUIT's arg isn't 0; DONE's arg is free".
-pub data Heads (d : Dialect) (arg : ℕ) : Id → (size : ℕ) → Type 0 where
-  of-path : (i : PathOnly) → arg ≤ d .longest → Heads d arg (pathId i) (8 + arg)
-  of-RCV2 : arg ≤ d .longest → Heads d arg RCV2 (8 + (arg + 8))
-  of-SEND : arg ≤ d .longest + 11 → Heads d arg SEND (8 + arg)
-  of-SND2 : arg ≤ d .longest → Heads d arg SND2 (8 + (arg + 12))
-  of-DATA : arg ≤ 65536 → Heads d arg DATA (8 + arg)
-  of-DONE : Heads d arg DONE 8
-  of-QUIT : arg ≡ 0 → Heads d arg QUIT 8
 
 -- the reader's steps behind a header of a known id
 module _ (d : Dialect) (s : List ℕ) (i : Id) (long : 8 ≤ length s) (e : named d (idAt s) ≡ some i) (ok : argOk d (kindOf i) (argAt s) ≡ true) where

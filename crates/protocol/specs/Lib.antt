@@ -6,6 +6,7 @@ pub mod Flags
 pub mod Features
 pub mod Messages
 pub mod Requests
+pub mod Headers
 pub mod Answers
 pub mod Calls
 pub mod Reader

@@ -1,5 +1,5 @@
--- Demand 3: of any system whose two logs are faithful, by comparing the two plain readers; and of the session's own steps, whose log is
--- faithful from the opening.
+-- Demand 3: of any system whose logs are faithful against every host, by comparing the two plain readers; and of the session's own
+-- steps, whose log is faithful from the opening.
 -- Assumes nothing.
 use Prim.Native.Nat.{ℕ, _+_, _≤_, _<_}
 use mathlib.Core.List.{List, [], _++_}
@@ -18,7 +18,8 @@ use Rattle.features.specs.Meaning.{listed}
 use Rattle.recv_buf.specs.RecvBuf.{heldBytes}
 use Rattle.session.specs.Calls.{fresh, openRefusal}
 use Rattle.session.specs.Core.{core, featuresFrom, coreSystem}
-use Rattle.session.specs.Demand3.{System, Side, reader, logFrom, answersOf, failLength, Demand3, Claim}
+use Rattle.session.specs.Demand3.{System, CodedReport, AllWide, Side, reader, logFrom, answersOf, failLength, Demand3, Claim}
+use Rattle.session.specs.EveryHost.{CodedHost, EveryHost}
 use Rattle.session.specs.Faithful.{Faithful}
 use Rattle.session.specs.Host.{Host, Entry, atStart, logOf}
 use Rattle.session.specs.State.{St, st, Good}
@@ -56,7 +57,7 @@ module _ {X : Type 0} (S : System X) (banner : List ℕ) (close : Report) (qs : 
   abbrev g′ : Config
   g′ = reader banner d close
 
-  pub demand : S .opened (a .x) banner (a .rx) (a .msg) .number ≡ 0 → S .opened (b .x) banner (b .rx) (b .msg) .number ≡ 0
+  demand : S .opened (a .x) banner (a .rx) (a .msg) .number ≡ 0 → S .opened (b .x) banner (b .rx) (b .msg) .number ≡ 0
       → Faithful g (a .host .end) qs (a .incoming) A → Faithful g′ (b .host .end) qs (b .incoming) B
       → (more : List ℕ) → b .incoming ≡ a .incoming ++ more → Demand3 S banner close qs c d a b
   demand opens-a opens-b f f′ more e =
@@ -101,6 +102,23 @@ module _ {X : Type 0} (S : System X) (banner : List ℕ) (close : Report) (qs : 
       meets : (k : ℕ) → k < length qs → failLength (a .incoming) A k ≡ argAt (unreadAt g (a .host .end) qs (a .incoming) k)
       meets k l = ap argAt (log-unread (a .host .end) g qs (a .incoming) A o f k (omega arith))
 
+-- a host that accepts every write is a host
+module _ {X : Type 0} (S : System X) (every : EveryHost S) (banner : List ℕ) (close : Report) (qs : List Call) (c : ℕ) (least : 8 ≤ c)
+    (coded : CodedReport close) (v : AllWide qs) (a : Side S c close) where
+  side-ok : (S .opened (a .x) banner (a .rx) (a .msg) .number ≡ 0)
+      × Faithful (reader banner c close) (a .host .end) qs (a .incoming) (logFrom S banner qs a)
+  side-ok =
+      let z : CodedHost (a .host) =
+      record { writes = λ i. subst CodedReport (sym (a .accepts i)) tt; close = subst CodedReport (sym (a .closes)) coded; end = a .coded } in
+      rw (sym (a .capacity), sym (a .closes))
+      (every banner (a .x) (a .rx) (a .msg) (a .placed) (omega (arith, a)) (omega (arith, a)) (a .wide) (a .host) z qs v (a .incoming) (a .bytes))
+
+pub claimed : {X : Type 0} (S : System X) → EveryHost S → Claim S
+claimed S every banner close qs c d least wide coded v a b more e =
+    let x = side-ok S every banner close qs c least coded v a in
+    let y = side-ok S every banner close qs d (omega arith) coded v b in
+    demand S banner close qs c d least wide a b (x .0) (y .0) (x .1) (y .1) more e
+
 -- ---- the session's own steps
 
 -- the features of a banner, kept and listed again
@@ -134,16 +152,9 @@ module _ (banner rx msg : List ℕ) (least : 8 ≤ length rx) (room : length rx 
       subst (λ (y : List ℕ). Faithful g (h .end) qs (y ++ incoming) (logOf core h qs (atStart incoming) (begins .ses) rx msg)) begins-empty
       (faithful h g qs (atStart incoming) begins begins-good refl (rw (features-listed banner)))
 
-module _ (banner : List ℕ) (close : Report) (qs : List Call) (c : ℕ) (least : 8 ≤ c) (a : Side coreSystem c close) where
-  takes : openRefusal (length (a .rx)) (length (a .msg)) ≡ 0
-  takes = opens banner (a .rx) (a .msg) (omega (arith, a)) (omega (arith, a))
-
-  log-faithful : Faithful (reader banner c close) (a .host .end) qs (a .incoming) (logFrom coreSystem banner qs a)
-  log-faithful =
-      rw (takes, sym (a .capacity), sym (a .closes)) (begins-faithful banner (a .rx) (a .msg) (omega (arith, a)) (omega (arith, a)) (a .host) qs (a .incoming))
+pub core-hosts : EveryHost coreSystem
+core-hosts banner x rx msg placed least room wide h z qs v incoming b =
+    (opens banner rx msg least room, rw (opens banner rx msg least room) (begins-faithful banner rx msg least room h qs incoming))
 
 pub core-claim : Claim coreSystem
-core-claim banner close qs c d least wide coded wides a b more e =
-    let least-b : 8 ≤ d = omega arith in
-    demand coreSystem banner close qs c d least wide a b (takes banner close qs c least a) (takes banner close qs d least-b b) (log-faithful banner close qs c least a)
-    (log-faithful banner close qs d least-b b) more e
+core-claim = claimed coreSystem core-hosts

@@ -8,3 +8,4 @@ pub mod Host
 pub mod Core
 pub mod Faithful
 pub mod Demand3
+pub mod EveryHost
