@@ -199,11 +199,11 @@ module _ (h : Host) (z : CodedHost h) (lent : List ℕ) (short : U64 (length len
 
 module _ (h : Host) (z : CodedHost h) where
   -- an entry, and what follows
-  entry-same : (u : List ℕ) (k : World → List ℕ → List ℕ → List ℕ → List Entry) (k′ : World → Session → List ℕ → List ℕ → List Entry)
+  entry-same : (u m : List ℕ) (k : World → List ℕ → List ℕ → List ℕ → List Entry) (k′ : World → Session → List ℕ → List ℕ → List Entry)
       → ((w : World) (s : St) → Inv s → Bytes (w .left) → k w (stored (s .ses)) (s .rx) (s .msg) ≡ k′ w (s .ses) (s .rx) (s .msg))
-      → (e : Run (List ℕ)) (r : Run Session) → Same e r → onRun exported u k e ≡ onRun core u k′ r
-  entry-same u k k′ on e (over-with x rx msg a w) (p, (i, b)) = ap (onRun exported u k) p ∙ rw (holds-same (st x rx msg) i, on w (st x rx msg) i b)
-  entry-same u k k′ on e unended p = ap (onRun exported u k) p
+      → (e : Run (List ℕ)) (r : Run Session) → Same e r → onRun exported u m k e ≡ onRun core u m k′ r
+  entry-same u m k k′ on e (over-with x rx msg a w) (p, (i, b)) = ap (onRun exported u m k) p ∙ rw (holds-same (st x rx msg) i, on w (st x rx msg) i b)
+  entry-same u m k k′ on e unended p = ap (onRun exported u m k) p
 
   pub log-same : (qs : List Call) (w : World) (s : St) → Inv s → Bytes (w .left) → AllWide qs
       → logOf exported h qs w (stored (s .ses)) (s .rx) (s .msg) ≡ logOf core h qs w (s .ses) (s .rx) (s .msg)
@@ -212,6 +212,6 @@ module _ (h : Host) (z : CodedHost h) where
   log-same (q ∷ qs) w s x b v =
       let f : Fine (s .ses) (begin s q) = begin-fine s x q (v .0) in
       rw (holds-same s x)
-      (entry-same (held s) _ _ (λ w′ s′ x′ b′. log-same qs w′ s′ x′ b′ (v .1))
+      (entry-same (held s) (s .msg) _ _ (λ w′ s′ x′ b′. log-same qs w′ s′ x′ b′ (v .1))
       (runCall exported h q w (stored (s .ses)) (s .rx) (s .msg)) (runCall core h q w (s .ses) (s .rx) (s .msg))
       (rw (start-image s x q f) (run-same h z (lentOf q) (lent-wide q (v .0)) (enough q w) (s .ses) (newCall w) (begin s q) f b)))

@@ -58,15 +58,15 @@ module _ {X : Type 0} (E : Engine X) (h : Host) (accepts : (i : ℕ) → h .writ
     run-kept zero w s e = tt
     run-kept (suc n) w s e = granted-kept (λ w′ s′. run E h lent n w′ s′) (λ w′ s′ e′. run-kept n w′ s′ e′) w s e (s .show)
 
-  entry-kept : (held : List ℕ) (k : World → X → List ℕ → List ℕ → List Entry) → ((w : World) (x : X) (rx msg : List ℕ) → AllAccepted (k w x rx msg))
-      → (o : Run X) → Kept o → AllAccepted (onRun E held k o)
-  entry-kept held k rest (over-with x rx msg a w) e = (e, rest w x rx msg)
-  entry-kept held k rest unended e = tt
+  entry-kept : (held msg : List ℕ) (k : World → X → List ℕ → List ℕ → List Entry) → ((w : World) (x : X) (rx msg : List ℕ) → AllAccepted (k w x rx msg))
+      → (o : Run X) → Kept o → AllAccepted (onRun E held msg k o)
+  entry-kept held msg k rest (over-with x rx msg′ a w) e = (e, rest w x rx msg′)
+  entry-kept held msg k rest unended e = tt
 
   pub log-accepts : (qs : List Call) (w : World) (x : X) (rx msg : List ℕ) → AllAccepted (logOf E h qs w x rx msg)
   unfolding logOf
   log-accepts [] w x rx msg = tt
   log-accepts (q ∷ qs) w x rx msg =
-      entry-kept (E .holds x rx) (λ w′ x′ rx′ msg′. logOf E h qs w′ x′ rx′ msg′) (λ w′ x′ rx′ msg′. log-accepts qs w′ x′ rx′ msg′)
+      entry-kept (E .holds x rx) msg (λ w′ x′ rx′ msg′. logOf E h qs w′ x′ rx′ msg′) (λ w′ x′ rx′ msg′. log-accepts qs w′ x′ rx′ msg′)
       (runCall E h q w x rx msg)
       (run-kept (lentOf q) (enough q w) (newCall w) (E .start x rx msg q) refl)

@@ -24,7 +24,7 @@ use Rattle.session.specs.declared.Want.{Want}
 use Rattle.session.specs.declared.Want.the-variants as W
 use Rattle.session.specs.Calls.{settingOf}
 use Rattle.session.specs.Core.{requestOf, core}
-use Rattle.session.specs.Faithful.{Faithful}
+use Rattle.session.specs.Faithful.{meetsHeader, Faithful}
 use Rattle.session.specs.Host.{Host, World, lentOf, Run, over-with, unended, enough, runCall, Entry, onRun, logOf}
 use Rattle.session.specs.Phases.{wants}
 use Rattle.session.specs.Reports.{writeFault}
@@ -60,8 +60,9 @@ module _ (h : Host) (w : World) (s : St) (good : Good s) (live : s .ses .ended �
   reads : (q : Call) → LetIn (at q) → (f i : ℕ) (xs : List (List ℕ)) (t : St) (x : Want) → isQuit q ≡ false → later (at q) ≤ f → Mid (at q) t → xs ≡ all (at q)
       → ((msg y : List ℕ) → plain (s .ses .capacity) (written (configOf (s .ses) (h .close)) q) y
       ≡ plain (s .ses .capacity) (restOf (s .ses .capacity) msg (Header x)) y)
+      → meetsHeader (written (configOf (s .ses) (h .close)) q) ≡ true
       → Goes (at q) f i xs [] (readOn t (Header x) false)
-  reads q lets f i xs t x stays l m e goes = header-ok (at q) lets stays f i xs [] t x false live l m e goes (fault-told (h .end))
+  reads q lets f i xs t x stays l m e goes meets = header-ok (at q) lets stays f i xs [] t x false live l m e goes (fault-told (h .end)) meets
 
   -- stat: its reply follows
   stat-ok : (q : Call) → LetIn (at q) → (rq : Request) (x : Want) → Breaks (at q) (later (at q)) rq → isQuit q ≡ false
@@ -69,10 +70,10 @@ module _ (h : Host) (w : World) (s : St) (good : Good s) (live : s .ses .ended �
       → ((t : St) → resumed t rq 0 (lentOf q) ≡ readOn t (Header x) false)
       → ((msg y : List ℕ) → plain (s .ses .capacity) (written (configOf (s .ses) (h .close)) q) y
       ≡ plain (s .ses .capacity) (restOf (s .ses .capacity) msg (Header x)) y)
-      → length (w .left) + 7 ≤ enough q w
+      → meetsHeader (written (configOf (s .ses) (h .close)) q) ≡ true → length (w .left) + 7 ≤ enough q w
       → Goes (at q) (enough q w) (w .writes) [] [] (beside (messageOut (begun (s .ses) (length (lentOf q))) (s .rx) rq 0 (lentOf q)) (s .msg))
-  stat-ok q lets rq x breaks stays one carries resumes goes l =
-      path-ok (at q) lets good live rq breaks (λ f i t m y. rw (resumes t) (reads q lets f i (all (at q)) t x stays m y refl goes)) (enough q w) one carries (omega arith)
+  stat-ok q lets rq x breaks stays one carries resumes goes meets l =
+      path-ok (at q) lets good live rq breaks (λ f i t m y. rw (resumes t) (reads q lets f i (all (at q)) t x stays m y refl goes meets)) (enough q w) one carries (omega arith)
 
   quit-breaks : LetIn (at (call quit)) → Breaks (at (call quit)) (later (at (call quit))) Q.Quit
   unfolding writeFault writeBroke
@@ -85,11 +86,11 @@ module _ (h : Host) (w : World) (s : St) (good : Good s) (live : s .ses .ended �
   unfolding messages carried sent writeFault writeBroke written resumed cont wants messageOf cut
   open-ok (call (ask stat p)) lets =
       let c : Site = at (call (ask stat p)) in
-      stat-ok (c .call) lets Q.Stat (W.Stat V1) (plain-breaks c lets refl Q.Stat (λ t e. refl) (λ e. refl)) refl refl refl (λ t. refl) (λ msg y. refl)
+      stat-ok (c .call) lets Q.Stat (W.Stat V1) (plain-breaks c lets refl Q.Stat (λ t e. refl) (λ e. refl)) refl refl refl (λ t. refl) (λ msg y. refl) refl
       (omega arith)
   open-ok (call (ask sta2 p)) lets =
       let c : Site = at (call (ask sta2 p)) in
-      stat-ok (c .call) lets Q.Sta2 (W.Stat V2) (plain-breaks c lets refl Q.Sta2 (λ t e. refl) (λ e. refl)) refl refl refl (λ t. refl) (λ msg y. refl)
+      stat-ok (c .call) lets Q.Sta2 (W.Stat V2) (plain-breaks c lets refl Q.Sta2 (λ t e. refl) (λ e. refl)) refl refl refl (λ t. refl) (λ msg y. refl) refl
       (omega arith)
   open-ok (call (ask list p)) lets =
       let c : Site = at (call (ask list p)) in
@@ -119,7 +120,7 @@ module _ (h : Host) (w : World) (s : St) (good : Good s) (live : s .ses .ended �
   open-ok (call (done t)) lets =
       let c : Site = at (call (done t)) in
       bare-ok c lets good live (Q.Done t) (push-breaks c lets refl (Q.Done t) live (λ t e. refl) (λ e. refl) refl)
-      (λ f i t l x. reads (c .call) lets f i (all c) (tidied t) W.Okay refl l (mid-tidied c t x) refl (λ msg y. refl))
+      (λ f i t l x. reads (c .call) lets f i (all c) (tidied t) W.Okay refl l (mid-tidied c t x) refl (λ msg y. refl) refl)
       (enough (c .call) w) refl refl refl (omega arith)
   open-ok (call quit) lets =
       let c : Site = at (call quit) in
@@ -128,50 +129,51 @@ module _ (h : Host) (w : World) (s : St) (good : Good s) (live : s .ses .ended �
       (enough (c .call) w) refl refl refl (omega arith)
   open-ok (nextEntry v1) lets =
       let c : Site = at (nextEntry v1) in
-      reads (c .call) lets (enough (c .call) w) (w .writes) [] (started c) (W.Entry V1) refl (omega arith) (mid-started c good) (sym (all-is c lets)) (λ msg y. refl)
+      reads (c .call) lets (enough (c .call) w) (w .writes) [] (started c) (W.Entry V1) refl (omega arith) (mid-started c good) (sym (all-is c lets)) (λ msg y. refl) refl
   open-ok (nextEntry v2) lets =
       let c : Site = at (nextEntry v2) in
-      reads (c .call) lets (enough (c .call) w) (w .writes) [] (started c) (W.Entry V2) refl (omega arith) (mid-started c good) (sym (all-is c lets)) (λ msg y. refl)
+      reads (c .call) lets (enough (c .call) w) (w .writes) [] (started c) (W.Entry V2) refl (omega arith) (mid-started c good) (sym (all-is c lets)) (λ msg y. refl) refl
   open-ok nextChunk lets =
       let c : Site = at nextChunk in
       reads (c .call) lets (enough (c .call) w) (w .writes) [] (tidied (started c)) W.Chunk refl (omega arith) (mid-tidied c (started c) (mid-started c good))
-      (sym (all-is c lets)) (λ msg y. refl)
+      (sym (all-is c lets)) (λ msg y. refl) refl
 
 -- ---- every call
 
 -- One call: it ends, as the plain reader does.
 pub call-ok : (h : Host) (w : World) (s : St) (q : Call) → Good s → s .ses .pending ≡ Idle
-    → Comes (configOf (s .ses) (h .close)) (h .end) q (held s ++ w .left) (length (held s)) (runCall core h q w (s .ses) (s .rx) (s .msg))
+    → Comes (configOf (s .ses) (h .close)) (h .end) q (held s ++ w .left) (length (held s)) (s .msg) (runCall core h q w (s .ses) (s .rx) (s .msg))
 unfolding plain
 call-ok h w s q good i = go (refusal (settingOf (s .ses)) q) refl (begins s q good i)
   where
     go : (o : Option P.Answer) → refusal (settingOf (s .ses)) q ≡ o → Begins s q o
-        → Comes (configOf (s .ses) (h .close)) (h .end) q (held s ++ w .left) (length (held s)) (runCall core h q w (s .ses) (s .rx) (s .msg))
+        → Comes (configOf (s .ses) (h .close)) (h .end) q (held s ++ w .left) (length (held s)) (s .msg) (runCall core h q w (s .ses) (s .rx) (s .msg))
     go none r b = rw (b .1) (open-ok h w s good (b .0) q r)
     go (some a) r b =
         rw (refused h w s q a good i r)
-        (record { good = good; still = i; config = rw (b .1 .0); same = rw r; heeds = record { asks = tt; pieces = rw r; closes = sym (b .1 .1) } })
+        (record { good = good; still = i; config = rw (b .1 .0); same = rw r; heeds = record { asks = tt; pieces = rw r; closes = sym (b .1 .1) }; kept = rw r })
 
 -- ---- every list of calls
 
 module _ (h : Host) where
   -- a call that came to what it should is an entry as the plain reader has it, and the rest follows
-  entry-ok : (g : Config) (q : Call) (qs : List Call) (v held₀ : List ℕ) (k : World → Session → List ℕ → List ℕ → List Entry) (o : Run Session)
-      → Comes g (h .end) q v (length held₀) o
+  entry-ok : (g : Config) (q : Call) (qs : List Call) (v held₀ msg₀ : List ℕ) (k : World → Session → List ℕ → List ℕ → List Entry) (o : Run Session)
+      → Comes g (h .end) q v (length held₀) msg₀ o
       → ((w : World) (t : St) → Good t → t .ses .pending ≡ Idle → configOf (t .ses) (g .close) ≡ after g q
       → Faithful (after g q) (h .end) qs (held t ++ w .left) (k w (t .ses) (t .rx) (t .msg)))
-      → Faithful g (h .end) (q ∷ qs) v (onRun core held₀ k o)
-  entry-ok g q qs v held₀ k (over-with x rx msg a w) c rest = (
+      → Faithful g (h .end) (q ∷ qs) v (onRun core held₀ msg₀ k o)
+  entry-ok g q qs v held₀ msg₀ k (over-with x rx msg a w) c rest = (
     record {
       answer = sym (ap (λ (y : Reply). y .answer) (c .same));
       unread = sym (ap (λ (y : Reply). y .unread) (c .same));
       asks = c .heeds .asks;
       pieces = c .heeds .pieces;
       closes = c .heeds .closes;
+      kept = c .kept;
     },
     rest w (st x rx msg) (c .good) (c .still) (c .config),
   )
-  entry-ok g q qs v held₀ k unended c rest = absurd c
+  entry-ok g q qs v held₀ msg₀ k unended c rest = absurd c
 
   -- Each call of the log is the plain reader's, whatever the host does.
   pub faithful : (g : Config) (qs : List Call) (w : World) (s : St) → Good s → s .ses .pending ≡ Idle → configOf (s .ses) (h .close) ≡ g
@@ -179,7 +181,7 @@ module _ (h : Host) where
   unfolding logOf
   faithful g [] w s good i c = tt
   faithful g (q ∷ qs) w s good i c =
-      entry-ok g q qs (held s ++ w .left) (held s) (λ w′ x rx msg. logOf core h qs w′ x rx msg) (runCall core h q w (s .ses) (s .rx) (s .msg))
-      (subst (λ (y : Config). Comes y (h .end) q (held s ++ w .left) (length (held s)) (runCall core h q w (s .ses) (s .rx) (s .msg))) c
+      entry-ok g q qs (held s ++ w .left) (held s) (s .msg) (λ w′ x rx msg. logOf core h qs w′ x rx msg) (runCall core h q w (s .ses) (s .rx) (s .msg))
+      (subst (λ (y : Config). Comes y (h .end) q (held s ++ w .left) (length (held s)) (s .msg) (runCall core h q w (s .ses) (s .rx) (s .msg))) c
       (call-ok h w s q good i))
       (λ w′ t good′ i′ c′. faithful (after g q) qs w′ t good′ i′ (ap (λ (z : Report). configOf (t .ses) z) (ap (λ (y : Config). y .close) c) ∙ c′))

@@ -20,7 +20,7 @@ use Rattle.session.specs.declared.Phase.the-variants.{Header}
 use Rattle.session.specs.declared.Want.{Want}
 use Rattle.session.specs.declared.Want.the-variants as W
 use Rattle.session.specs.Core.{faultOf, stepOf, core}
-use Rattle.session.specs.Faithful.{Accepted}
+use Rattle.session.specs.Faithful.{Accepted, meetsHeader}
 use Rattle.session.specs.Host.{Broken, World, outcomeOf, hasClosed, grantClose, run}
 use Rattle.session.specs.Phases.{wants}
 use Rattle.session.specs.Reports.{faultAnswer, pushFault, writeFault, wroteAt, faultAt, closedOut}
@@ -31,6 +31,7 @@ use Rattle.session.specs.Steps.{readOn, told, closingOut, resumed}
 use Rattle.session.proofs.Buf.{good-pending}
 use Rattle.session.proofs.Run.{configIn, configOf, Heeds, fault-step, wrote-step, fault-told, run-told, reading-ok}
 use Rattle.session.proofs.Site.{once, Site, lent, reader, all, unread, Ok, wrote, Goes, later, started, Mid, mid-pending, mid-runs, mid-lends, LetIn, program-is}
+use Rattle.session.proofs.Text.{pump-text}
 use Rattle.session.proofs.Turns.{held, cont, restOf, Frame, frameOf, at, Kept, kept-eq, pumped-ok}
 
 -- a frame, after quit
@@ -64,6 +65,7 @@ module _ (c : Site) (lets : LetIn c) where
           config = ap (λ (ψ : Frame). configIn ψ (c .host .close)) (x .frame) ∙ config;
           same = rw (program-is c lets (outcomeOf bs) ∙ e, x .same);
           heeds = heeds xs i bs p;
+          kept = rw (program-is c lets (outcomeOf bs) ∙ e) (x .msg);
         })
 
     -- the call reads a header
@@ -72,18 +74,22 @@ module _ (c : Site) (lets : LetIn c) where
         → ((msg y : List ℕ) → plain (c .state .ses .capacity) (onReport (reader c) (outcomeOf bs) (c .call)) y
         ≡ plain (c .state .ses .capacity) (restOf (c .state .ses .capacity) msg (Header x)) y)
         → ((rx msg : List ℕ) → paper rx msg (pick lost A.Closed (faultAnswer (faultOf (c .host .end)))) ≡ P.broken (endOf (c .host .end) (outcomeOf bs) (c .call)))
+        → meetsHeader (onReport (reader c) (outcomeOf bs) (c .call)) ≡ true
         → Goes c f i xs bs (readOn t (Header x) lost)
-    header-ok f i xs bs t x lost live l m p e z =
+    header-ok f i xs bs t x lost live l m p e z meets =
         let φ : Frame = frameOf (started c .ses) in
         let o : Out = readOn t (Header x) lost in
         let G : List ℕ → Result = λ y. plain (c .state .ses .capacity) (program (reader c) (outcomeOf bs) (c .call)) (held t ++ y) in
-        reading-ok (c .host) (reader c) (c .call) (unread c) (length (held (c .state))) φ lost (outcomeOf bs) live refl config z f (wrote c i xs bs) (held t) o
+        reading-ok (c .host) (reader c) (c .call) (unread c) (length (held (c .state))) (c .state .msg) φ lost (outcomeOf bs) live refl config z f (wrote c i xs bs) (held t) o
         (omega arith) refl
         (ap (λ (y : List ℕ). y ++ c .world .left) (sym (m .same))) tt (heeds xs i bs p)
         (kept-eq φ lost G (at t (Header x)) o
         (λ y. ap (λ (k : Prog). plain (c .state .ses .capacity) k (held t ++ y)) (program-is c lets (outcomeOf bs)) ∙ e (t .msg) (held t ++ y)
         ∙ ap (λ (ψ : Frame). plain (ψ .capacity) (restOf (ψ .capacity) (t .msg) (Header x)) (held t ++ y)) (sym (m .frame)))
         (subst (λ (ψ : Frame). Kept ψ lost (at t (Header x)) o) (m .frame) (pumped-ok t (Header x) lost (m .good) tt)))
+        (λ y.
+        rw (program-is c lets (outcomeOf bs), meets, sym (m .msg), ap (λ (ψ : Frame). ψ .capacity) (sym (m .frame)))
+        (pump-text 4 t (Header x) lost (m .good) tt y))
 
     -- what a fault of a write comes to: an answer, or for a push the next header
     pub plain-breaks : (rq : Request) → ((t : St) (e : Fault) → writeFault t rq e ≡ told t (faultAnswer e))
@@ -101,7 +107,7 @@ module _ (c : Site) (lets : LetIn c) where
     push-breaks rq live faults breaks ends f i xs b rest t closed l x split =
         rw (faults t (faultOf closed))
         (header-ok f i xs (once xs b closed) t W.Nothing true live l x (rest, (split, refl))
-        (λ msg y. ap (λ (k : Prog). plain (c .state .ses .capacity) k y) (breaks closed)) (λ rx msg. ap P.broken (sym ends)))
+        (λ msg y. ap (λ (k : Prog). plain (c .state .ses .capacity) k y) (breaks closed)) (λ rx msg. ap P.broken (sym ends)) (ap meetsHeader (breaks closed)))
     push-breaks rq live faults breaks ends f i xs b rest t (error k) l x split =
         rw (faults t (faultOf (error k))) (told-ok f i xs (once xs b (error k)) t (A.Error k) (omega arith) x (rest, (split, refl)) (breaks (error k)))
 
@@ -136,6 +142,7 @@ module _ (c : Site) (lets : LetIn c) where
             config = rw quits (ap (λ (ψ : Frame). configIn (ended ψ) (c .host .close)) (x .frame));
             same = rw (program-is c lets (outcomeOf bs) ∙ e ∙ ap answer (told failed), x .same);
             heeds = record { asks = tt; pieces = p; closes = rw (quits, live) };
+            kept = rw (program-is c lets (outcomeOf bs) ∙ e) (x .msg);
           })
         where
           told : (k : Bool) → pick k (P.broken (error code)) (closing (c .host .close)) ≡ paper (t .rx) (t .msg) (pick k (A.Error code) a)

@@ -30,7 +30,7 @@ use Rattle.session.specs.declared.Reply.the-variants as R
 use Rattle.session.specs.declared.Session.{Session}
 use Rattle.session.specs.Calls.{isIdle}
 use Rattle.session.specs.Core.{faultOf, stepOf, core}
-use Rattle.session.specs.Faithful.{AtNeed, Brought, AllAtNeeds, callPieces, Accepted, closesFor}
+use Rattle.session.specs.Faithful.{AtNeed, Brought, AllAtNeeds, callPieces, Accepted, closesFor, textOf, keeping}
 use Rattle.session.specs.Host.{Step, Host, Ask, World, outcomeOf, hasRead, counted, filling, windowed, lentOf, Run, over-with, unended, grantRead, granted, run}
 use Rattle.session.specs.Phases.{wants}
 use Rattle.session.specs.Reports.{reportRefusal, refusalAt, readIn, readAt, reportRead, wroteAt, reportWrote, faultAnswer, faultAt, reportFault}
@@ -39,6 +39,7 @@ use Rattle.session.specs.State as S
 use Rattle.session.specs.State.{St, st, Out, Good}
 use Rattle.session.proofs.Buf.{sound-of, good-at, good-pending}
 use Rattle.session.proofs.Misfit.{fits-misfit}
+use Rattle.session.proofs.Text.{textAt, textIn, text-short, Texts, stay-text}
 use Rattle.session.proofs.Turns.{held, cont, Frame, frameOf, Waits, KeptOut, Kept, kept-eq, stay-ok}
 
 -- ---- what a call is to come to
@@ -58,17 +59,19 @@ pub record Heeds (g : Config) (q : Call) (v : List ℕ) (n : ℕ) (w : World) : 
   pub pieces : Accepted (callPieces g q n) (w .pieces) (w .broken)
   pub closes : w .closes ≡ closesFor (isQuit q) (g .setting .ended) (w .pieces)
 
--- A call that is over: so is what it answers and what is left unread, and the next call finds a session as the plain reader is then.
-pub record Over (g : Config) (e : End) (q : Call) (v : List ℕ) (n : ℕ) (t : St) (a : P.Answer) (w : World) : Type 0 where
+-- A call that is over: so is what it answers and what is left unread, and the next call finds a session as the plain reader is then. The
+-- message buffer was m.
+pub record Over (g : Config) (e : End) (q : Call) (v : List ℕ) (n : ℕ) (m : List ℕ) (t : St) (a : P.Answer) (w : World) : Type 0 where
   pub good : Good t
   pub still : t .ses .pending ≡ Idle
   pub config : configOf (t .ses) (g .close) ≡ after g q
   pub same : plainCall g e (outcomeOf (w .broken)) q v ≡ record { answer = a; unread = held t ++ w .left }
   pub heeds : Heeds g q v n w
+  pub kept : t .msg ≡ keeping (textOf g (outcomeOf (w .broken)) q v) m
 
-abbrev pub Comes : Config → End → Call → List ℕ → ℕ → Run Session → Type 0
-Comes g e q v n (over-with x rx msg a w) = Over g e q v n (st x rx msg) a w
-Comes g e q v n unended = ⊥
+abbrev pub Comes : Config → End → Call → List ℕ → ℕ → List ℕ → Run Session → Type 0
+Comes g e q v n m (over-with x rx msg a w) = Over g e q v n m (st x rx msg) a w
+Comes g e q v n m unended = ⊥
 
 -- ---- reports
 
@@ -113,7 +116,7 @@ pub length-filling : (f : ℕ → ℕ) (n : ℕ) → length (filling f n) ≡ n
 length-filling f zero = refl
 length-filling f (suc n) = ap suc (length-filling f n)
 
-module _ (h : Host) (g : Config) (q : Call) (v : List ℕ) (n : ℕ) (φ : Frame) (lost : Bool) (r : Report) (runs : φ .ended ≡ false)
+module _ (h : Host) (g : Config) (q : Call) (v : List ℕ) (n : ℕ) (m : List ℕ) (φ : Frame) (lost : Bool) (r : Report) (runs : φ .ended ≡ false)
     (size : φ .lent ≡ length (lentOf q)) (config : configIn φ (g .close) ≡ after g q)
     (end-told : (rx msg : List ℕ) → paper rx msg (pick lost A.Closed (faultAnswer (faultOf (h .end)))) ≡ P.broken (endOf (h .end) r q)) where
   -- the plain reader, given the bytes x
@@ -121,15 +124,23 @@ module _ (h : Host) (g : Config) (q : Call) (v : List ℕ) (n : ℕ) (φ : Frame
   G x = plain (g .capacity) (program g r q) x
 
   abbrev Ok : Run Session → Type 0
-  Ok o = Comes g (h .end) q v n o
+  Ok o = Comes g (h .end) q v n m o
+
+  -- the message buffer in the end, given the bytes x
+  abbrev M : List ℕ → List ℕ
+  M x = keeping (textOf g r q x) m
 
   -- one step of the run, in the world w where the bytes u of v have come
   module _ (w : World) (u : List ℕ) (t : St) (is : outcomeOf (w .broken) ≡ r) (come : v ≡ u ++ w .left) (brought : Brought (w .asks)) (heeds : Heeds g q v n w)
+      (texts : (x : List ℕ) → M (u ++ x) ≡ textIn (g .capacity) (t .ses .pending) (t .msg) (held t ++ x))
       (k : World → Step Session → Run Session)
       (ends : (w′ : World) (t′ : St) (a : Answer) → k w′ (stepOf (telling t′ a)) ≡ over-with (t′ .ses) (t′ .rx) (t′ .msg)
       (paper (t′ .rx) (t′ .msg) a) w′)
       (on : (w′ : World) (u′ : List ℕ) (o : Out) → length (w′ .left) < length (w .left) → outcomeOf (w′ .broken) ≡ r → v ≡ u′ ++ w′ .left → Brought (w′ .asks) → Heeds g q v n w′
-      → Kept φ lost (λ x. G (u′ ++ x)) o → Ok (k w′ (stepOf o))) where
+      → Kept φ lost (λ x. G (u′ ++ x)) o → Texts (g .capacity) (λ x. M (u′ ++ x)) o → Ok (k w′ (stepOf o))) where
+    in-the-end : keeping (textOf g (outcomeOf (w .broken)) q v) m ≡ textIn (g .capacity) (t .ses .pending) (t .msg) (held t ++ w .left)
+    in-the-end = ap (λ (r′ : Report). keeping (textOf g r′ q v) m) is ∙ ap M come ∙ texts (w .left)
+
     module _ (i len : ℕ) (p : Phase) (x : Waits φ (λ y. G (u ++ y)) lost t i len p) where
       abbrev ask : Ask
       ask = record { rest = w .left; holds = held t; at = i; len = len; before = w .pieces }
@@ -206,6 +217,12 @@ module _ (h : Host) (g : Config) (q : Call) (v : List ℕ) (n : ℕ) (φ : Frame
                 ∙ ap (λ (b : P.Answer). record { answer = b; unread = held t ++ w .left }) (sym (end-told rx (t .msg)))
                 ∙ ap (λ (y : List ℕ). record { answer = paper rx (t .msg) a; unread = y ++ w .left }) (sym (window-held f [] (omega arith)));
             heeds = read-heeds 0;
+            kept =
+                let few : length (held t ++ w .left) < wants (g .capacity) p =
+                rw (sym capacity) (omega (arith, x, length-append (held t) (w .left), held-length (t .rx) (t .ses .buf) (sound-of t (x .good)))) in
+                sym
+                (in-the-end ∙ ap (λ (z : Pending). textIn (g .capacity) z (t .msg) (held t ++ w .left)) (x .pend)
+                ∙ text-short (g .capacity) p (t .msg) (held t ++ w .left) few);
           }))
 
       -- some of it came
@@ -224,6 +241,13 @@ module _ (h : Host) (g : Config) (q : Call) (v : List ℕ) (n : ℕ) (φ : Frame
           (kept-eq φ lost (λ z. G (u ++ y ++ z)) (λ z. G (u ++ (y ++ z))) (until j) (λ z. ap G (append-assoc u y z))
           (subst (λ (m : ℕ). Kept φ lost (λ z. G (u ++ (y ++ z))) (until m)) e
           (stay-ok x y (filling f (len - length y)) (omega arith) (omega (arith, x, length-filling f (len - length y)))))))
+          (subst (Texts (g .capacity) (λ z. M (u ++ y ++ z)))
+          (sym (read-step t₁ (length (lentOf q)) (window-good f y (omega arith)) ended lends _ (x .pend) refl j))
+          (λ z.
+          ap M (append-assoc u y z) ∙ texts (y ++ z) ∙ ap (λ (s : Pending). textIn (g .capacity) s (t .msg) (held t ++ (y ++ z))) (x .pend)
+          ∙ subst (λ (n′ : ℕ). Texts n′ (λ a′. textAt n′ p (t .msg) (held t ++ (y ++ a′))) (until j)) capacity
+          (subst (λ (i′ : ℕ). Texts (t .ses .capacity) (λ a′. textAt (t .ses .capacity) p (t .msg) (held t ++ (y ++ a′))) (until i′)) e
+          (stay-text x y (filling f (len - length y)) (omega arith) (omega (arith, x, length-filling f (len - length y))))) z))
 
       read-ok : (ls : List ℕ) → w .left ≡ ls → Ok (grantRead core h (lentOf q) k w step ask ls)
       read-ok [] e = stop-ok (ap length e) (h .junk (w .reads))
@@ -241,6 +265,7 @@ module _ (h : Host) (g : Config) (q : Call) (v : List ℕ) (n : ℕ) (φ : Frame
           same = ap (λ (r′ : Report). plainCall g (h .end) r′ q v) is ∙ ap (λ (y : List ℕ). reply (endOf (h .end) r q) (G y)) come ∙ ap
               (reply (endOf (h .end) r q)) (x .same (w .left));
           heeds = heeds;
+          kept = sym (in-the-end ∙ ap (λ (z : Pending). textIn (g .capacity) z (t .msg) (held t ++ w .left)) (x .still));
         }
     reply-ok (R.Read i len) x =
         let wide : 0 < len = omega (arith, x .1) in
@@ -252,9 +277,9 @@ module _ (h : Host) (g : Config) (q : Call) (v : List ℕ) (n : ℕ) (φ : Frame
     reply-ok R.Close x = absurd x
 
   pub reading-ok : (f : ℕ) (w : World) (u : List ℕ) (o : Out) → length (w .left) + 1 < f → outcomeOf (w .broken) ≡ r → v ≡ u ++ w .left → Brought (w .asks) → Heeds g q v n w
-      → Kept φ lost (λ x. G (u ++ x)) o → Ok (run core h (lentOf q) f w (stepOf o))
+      → Kept φ lost (λ x. G (u ++ x)) o → Texts (g .capacity) (λ x. M (u ++ x)) o → Ok (run core h (lentOf q) f w (stepOf o))
   unfolding run
-  reading-ok zero w u o l is come brought heeds x = absurd (omega arith)
-  reading-ok (suc f) w u o l is come brought heeds x =
-      reply-ok w u (o .st) is come brought heeds (λ w′ s′. run core h (lentOf q) f w′ s′) (λ w′ t a. run-told h (lentOf q) f w′ t a (omega arith))
-      (λ w′ u′ o′ m is′ come′ brought′ heeds′ y. reading-ok f w′ u′ o′ (omega arith) is′ come′ brought′ heeds′ y) (o .reply) x
+  reading-ok zero w u o l is come brought heeds x texts = absurd (omega arith)
+  reading-ok (suc f) w u o l is come brought heeds x texts =
+      reply-ok w u (o .st) is come brought heeds texts (λ w′ s′. run core h (lentOf q) f w′ s′) (λ w′ t a. run-told h (lentOf q) f w′ t a (omega arith))
+      (λ w′ u′ o′ m is′ come′ brought′ heeds′ y texts′. reading-ok f w′ u′ o′ (omega arith) is′ come′ brought′ heeds′ y texts′) (o .reply) x

@@ -132,6 +132,7 @@ module _ (c : Site) where
             good = placed-good t (x .good) m fit (Writing rq from 0);
             frame = x .frame;
             same = placed-held t (x .good) m fit ∙ x .same;
+            msg = x .msg;
           } in
           rw (le-leb _ _ (placed-inside t (x .good) m fit), placed-there t (x .good) m fit)
           (write-ok f i xs todo m t₁ (R.WriteRx ((tidied t) .ses .buf .tail) (length m)) from 0 (omega arith) x₁ refl

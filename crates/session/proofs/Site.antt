@@ -51,7 +51,7 @@ module _ (c : Site) where
   unread = held (c .state) ++ c .world .left
 
   abbrev pub Ok : Run Session → Type 0
-  Ok o = Comes reader (c .host .end) (c .call) unread (length (held (c .state))) o
+  Ok o = Comes reader (c .host .end) (c .call) unread (length (held (c .state))) (c .state .msg) o
 
   -- the world after i writes in all, where xs of the call's pieces were accepted, and bs came to a fault
   abbrev pub wrote : ℕ → List (List ℕ) → List Broken → World
@@ -75,6 +75,7 @@ module _ (c : Site) where
     pub good : Good t
     pub frame : frameOf (t .ses) ≡ frameOf (started .ses)
     pub same : held t ≡ held (c .state)
+    pub msg : t .msg ≡ c .state .msg
 
   pub mid-started : Good (c .state) → Mid started
   mid-started g =
@@ -82,13 +83,14 @@ module _ (c : Site) where
         good = record { order = g .order; inside = g .inside; rx = g .rx; least = g .least; aside = g .aside; msg = g .msg };
         frame = refl;
         same = refl;
+        msg = refl;
       }
 
   pub mid-pending : (t : St) (p : Pending) → Mid t → Mid (st (at (t .ses) (t .ses .buf) p) (t .rx) (t .msg))
-  mid-pending t p x = record { good = good-pending t (x .good) p; frame = x .frame; same = x .same }
+  mid-pending t p x = record { good = good-pending t (x .good) p; frame = x .frame; same = x .same; msg = x .msg }
 
   pub mid-tidied : (t : St) → Mid t → Mid (tidied t)
-  mid-tidied t x = record { good = good-tidied t (x .good); frame = x .frame; same = held-tidied t (x .good) ∙ x .same }
+  mid-tidied t x = record { good = good-tidied t (x .good); frame = x .frame; same = held-tidied t (x .good) ∙ x .same; msg = x .msg }
 
   pub mid-runs : (t : St) → Mid t → c .state .ses .ended ≡ false → t .ses .ended ≡ false
   mid-runs t x e = ap (λ (ψ : Frame). ψ .ended) (x .frame) ∙ e

@@ -89,7 +89,7 @@ unfolding cont wants
 rest-header c msg w = refl
 
 -- what it goes on with after a turn
-abbrev thenOf : ℕ → List ℕ → List ℕ → Then → Prog
+abbrev pub thenOf : ℕ → List ℕ → List ℕ → Then → Prog
 thenOf c rx msg (Stop a) = answer (paper rx msg a)
 thenOf c rx msg (Go p) = restOf c msg p
 
@@ -106,7 +106,7 @@ Reached c (Text n) = Unit {0}
 Reached c (Rest left text) = text ≤ c
 
 -- how many turns may follow, beside those that leave nothing held
-rank : Phase → ℕ
+pub rank : Phase → ℕ
 rank (Header w) = 2
 rank (Stat v) = 0
 rank (Entry v) = 1
@@ -146,27 +146,26 @@ stat2-told rx msg s = go (eqb (s .error) 0)
     go false = refl
 
 -- h bytes are left held: what follows is nearer to the end than b
-abbrev Nearer : ℕ → ℕ → ℕ → Then → Type 0
+abbrev pub Nearer : ℕ → ℕ → ℕ → Then → Type 0
 Nearer c h b (Stop a) = Unit {0}
 Nearer c h b (Go p) = (rank p + min h 1 < b) × Reached c p
 
 -- h bytes are held from i on
 module _ (c : ℕ) (rx msg : List ℕ) (i h : ℕ) where
   -- The turn t at the phase q does at any unread bytes what the program p does, drops and keeps no more than is wanted, and brings the end nearer.
-  record Fine (q : Phase) (p : Prog) (t : Turn) : Type 0 where
-    does : (u : List ℕ) → plain c p u ≡ plain c (thenOf c rx (kept rx i (t .keeps) msg) (t .then)) (drop (t .drops) u)
-    drops : t .drops ≤ wants c q
-    keeps : t .keeps ≤ wants c q
-    nearer : Nearer c (h - t .drops) (rank q + min h 1) (t .then)
+  pub record Fine (q : Phase) (p : Prog) (t : Turn) : Type 0 where
+    pub does : (u : List ℕ) → plain c p u ≡ plain c (thenOf c rx (kept rx i (t .keeps) msg) (t .then)) (drop (t .drops) u)
+    pub drops : t .drops ≤ wants c q
+    pub keeps : t .keeps ≤ wants c q
+    pub nearer : Nearer c (h - t .drops) (rank q + min h 1) (t .then)
 
   stops : {q : Phase} {p : Prog} {n : ℕ} {a : Answer} → n ≤ wants c q → ((u : List ℕ) → plain c p u ≡ ended (paper rx msg a) (drop n u)) → Fine q p (stopping n a)
   unfolding plain kept
   stops l e = record { does = e; drops = l; keeps = omega arith; nearer = tt }
 
-  goes : {q r : Phase} {p : Prog} {n : ℕ} → (n ≤ wants c q) × (rank r < rank q) × Reached c r
-      → ((u : List ℕ) → plain c p u ≡ plain c (restOf c msg r) (drop n u)) → Fine q p (going n r)
-  unfolding kept
-  goes l e = record { does = e; drops = l .0; keeps = omega arith; nearer = (omega arith, l .2) }
+  goes : {q r : Phase} {p : Prog} {n k : ℕ} → (n ≤ wants c q) × (k ≤ wants c q) × (rank r < rank q) × Reached c r
+      → ((u : List ℕ) → plain c p u ≡ plain c (restOf c (kept rx i k msg) r) (drop n u)) → Fine q p (record { drops = n; keeps = k; then = Go r })
+  goes l e = record { does = e; drops = l .0; keeps = l .1; nearer = (omega arith, l .3) }
 
   -- a header x
   module _ (x : List ℕ) (four : length (idAt x) ≡ 4) where
@@ -183,7 +182,7 @@ module _ (c : ℕ) (rx msg : List ℕ) (i h : ℕ) where
     strange-fine = stops (omega arith) (λ u. ap (λ (y : List ℕ). ended (P.unexpected y) u) (four-bytes (idAt x) four))
 
     proceed-fine : (w : Want) → Fine (Header w) (among published (waysOf w) x (otherOf w (idAt x))) (proceed w (idAt x) (argAt x))
-    unfolding plain paper cont wants rank
+    unfolding plain paper cont wants rank kept
     proceed-fine (W.Stat V1) = fine-id STAT (goes (omega arith) (λ u. refl)) strange-fine
     proceed-fine (W.Stat V2) = fine-id STA2 (goes (omega arith) (λ u. refl)) strange-fine
     proceed-fine (W.Entry V1) = fine-id DENT (goes (omega arith) (λ u. refl)) (fine-id DONE (goes (omega arith) (λ u. refl)) strange-fine)
@@ -193,7 +192,7 @@ module _ (c : ℕ) (rx msg : List ℕ) (i h : ℕ) where
     proceed-fine W.Nothing = stops (omega arith) (λ u. refl)
 
     headed-fine : (w : Want) → Fine (Header w) (cont c msg (Header w) x) (headed w (idAt x) (argAt x))
-    unfolding plain cont wants rank headed
+    unfolding plain cont wants rank headed kept
     headed-fine w = fine-id FAIL (goes (omega arith) (λ u. refl)) (proceed-fine w)
 
   -- a FAIL text: d bytes are dropped, k of them kept, so that m bytes are kept, which are t; n are still to be dropped
@@ -323,10 +322,10 @@ waits-short {s = s} {p = p} w x l =
 
 -- ---- the steps
 
-abbrev wanted : St → Phase → ℕ
+abbrev pub wanted : St → Phase → ℕ
 wanted s p = wants (s .ses .capacity) p
 
-abbrev count : St → ℕ
+abbrev pub count : St → ℕ
 count s = heldCount (s .ses .buf)
 
 -- how many turns may follow
@@ -373,11 +372,11 @@ module _ (s : St) (p : Phase) (g : Good s) (r : Reached (s .ses .capacity) p) (f
 
   -- the need is met
   module _ (l : wanted s p ≤ count s) where
-    fine : Fine (s .ses .capacity) (s .rx) (s .msg) (s .ses .buf .head) (count s) p
+    pub fine : Fine (s .ses .capacity) (s .rx) (s .msg) (s .ses .buf .head) (count s) p
         (cont (s .ses .capacity) (s .msg) p (take (wanted s p) (drop (s .ses .buf .head) (s .rx)))) (turnOf s p)
     fine = turn-fine (s .ses .capacity) (s .rx) (s .msg) (s .ses .buf .head) (count s) (g .least) (omega arith) (omega arith) (omega arith) p l r
 
-    good-turned : Good (turned s (turnOf s p))
+    pub good-turned : Good (turned s (turnOf s p))
     good-turned =
         let d = fine .drops in
         let k = fine .keeps in
@@ -447,7 +446,7 @@ pumped-ok s p lost g r = pump-ok 4 s p lost g r (omega (arith, rank-le p))
 -- ---- a read
 
 -- bytes v came into the window, and any others lie behind them
-abbrev came : St → List ℕ → List ℕ → St
+abbrev pub came : St → List ℕ → List ℕ → St
 came s v junk =
     st (S.at (s .ses) (cursor (s .ses .buf .head) (s .ses .buf .tail + length v)) Idle) (laid (s .rx) (s .ses .buf .tail) (v ++ junk)) (s .msg)
 
@@ -456,7 +455,7 @@ module _ {φ : Frame} {F : List ℕ → Result} {lost : Bool} {s : St} {i n : �
   within : s .ses .buf .tail + length v + length junk ≤ length (s .rx)
   within = omega (arith, w)
 
-  good-came : Good (came s v junk)
+  pub good-came : Good (came s v junk)
   good-came =
       good-at s _ ((came s v junk) .rx) (s .msg) Idle (w .good) (omega (arith, w .good)) (omega (arith, w))
       (came-length (s .rx) (s .ses .buf) (sound-of s (w .good)) v junk within) refl

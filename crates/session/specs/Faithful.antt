@@ -1,16 +1,19 @@
 -- What is claimed of every host, also of one whose writes and close come to faults: each call of the log is the plain reader's.
 -- Assumes nothing.
-use Prim.Native.Nat.{ℕ, _+_, _-_, _≤_, _<_}
-use mathlib.Core.Bool.{Bool, true, false}
+use Prim.Native.Nat.{ℕ, _+_, _-_, _≤_, _<_, min}
+use mathlib.Core.Bool.{Bool, true, false, _&&_}
 use mathlib.Core.List.{List, [], _∷_, _++_}
 use mathlib.Core.Option.{Option, none, some}
 use mathlib.Core.Path.{_≡_}
-use lib.ListN.{length}
+use lib.Dec.{leb}
+use lib.ListN.{length, take, drop}
 use Rattle.protocol.specs.Answers.{Answer, End}
+use Rattle.protocol.specs.Bytes.{pick, same}
 use Rattle.protocol.specs.Calls.{Call, messages, refusal}
-use Rattle.protocol.specs.Ids.{Dialect}
+use Rattle.protocol.specs.Ids.{Dialect, FAIL}
 use Rattle.protocol.specs.Messages.{Request, pieces}
-use Rattle.protocol.specs.Reader.{Config, Report, short, plain, program, after, plainCall, isQuit}
+use Rattle.protocol.specs.Reader.{Prog, answer, need, skip, Config, Report, short, plain, program, after, plainCall, isQuit}
+use Rattle.protocol.specs.Records.{idAt, argAt, headerSize}
 use Rattle.session.specs.Host.{Ask, Broken, outcomeOf, Entry}
 
 -- A read asked at a need of the plain reader, with r reported of the call's writes: of the unread bytes v the reader is given those
@@ -64,6 +67,29 @@ closesFor true false ps = ps ∷ []
 closesFor true true ps = []
 closesFor false ended ps = []
 
+-- ---- the message buffer
+
+-- "The message buffer's first m bytes become the text once those have come, even if the rest never does": the text of a FAIL at the front
+-- of the unread bytes v, m = min(L, c); none where there is no FAIL, or fewer have come
+unfoldable pub failText : Dialect → ℕ → List ℕ → List ℕ
+failText d c v =
+    pick (same (idAt v) (d .bytes FAIL) && leb (headerSize + min (argAt v) c) (length v)) (take (min (argAt v) c) (drop headerSize v)) []
+
+-- .. of a call that comes to a header
+abbrev pub meetsHeader : Prog → Bool
+meetsHeader (answer a) = false
+meetsHeader (need n k) = true
+meetsHeader (skip n p) = false
+
+abbrev pub textOf : Config → Report → Call → List ℕ → List ℕ
+textOf g r q v = pick (meetsHeader (program g r q)) (failText (g .setting .dialect) (g .capacity) v) []
+
+-- ".. its others never alter"
+abbrev pub keeping : List ℕ → List ℕ → List ℕ
+keeping text msg = text ++ drop (length text) msg
+
+-- ---- the calls
+
 -- a call of the log, on the unread bytes v
 pub record AsReader (g : Config) (e : End) (q : Call) (v : List ℕ) (x : Entry) : Type 0 where
   pub answer : x .answer ≡ plainCall g e (outcomeOf (x .broken)) q v .answer
@@ -71,6 +97,7 @@ pub record AsReader (g : Config) (e : End) (q : Call) (v : List ℕ) (x : Entry)
   pub asks : AllAtNeeds g (outcomeOf (x .broken)) q v (x .pieces) (x .asks)
   pub pieces : Accepted (callPieces g q (length (x .held))) (x .pieces) (x .broken)
   pub closes : x .closes ≡ closesFor (isQuit q) (g .setting .ended) (x .pieces)
+  pub kept : x .kept ≡ keeping (textOf g (outcomeOf (x .broken)) q v) (x .msg)
 
 -- an entry for each call, each as the plain reader has it
 abbrev pub Faithful : Config → End → List Call → List ℕ → List Entry → Type 0

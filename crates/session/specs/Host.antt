@@ -170,22 +170,24 @@ runCall E h q w x rx msg = run E h (lentOf q) (enough q w) (newCall w) (E .start
 
 -- what is logged of a call
 pub record Entry : Type 0 where
-  -- the bytes held when it began
+  -- the bytes held and the message buffer when it began
   pub held : List ℕ
+  pub msg : List ℕ
   pub answer : Answer
   pub asks : List Ask
   pub pieces : List (List ℕ)
   pub broken : List Broken
   pub closes : List (List (List ℕ))
-  -- the bytes held and still to come when it was over
+  -- the bytes held and still to come, and the message buffer, when it was over
   pub unread : List ℕ
+  pub kept : List ℕ
 
-abbrev pub onRun : {X : Type 0} → Engine X → (held : List ℕ) → (World → X → List ℕ → List ℕ → List Entry) → Run X → List Entry
-onRun E held k (over-with x rx msg a w) =
-    record { held = held; answer = a; asks = w .asks; pieces = w .pieces; broken = w .broken; closes = w .closes; unread = E .holds x rx ++ w .left } ∷ k w x rx msg
-onRun E held k unended = []
+abbrev pub onRun : {X : Type 0} → Engine X → (held msg : List ℕ) → (World → X → List ℕ → List ℕ → List Entry) → Run X → List Entry
+onRun E held msg k (over-with x rx msg′ a w) =
+    record { held = held; msg = msg; answer = a; asks = w .asks; pieces = w .pieces; broken = w .broken; closes = w .closes; unread = E .holds x rx ++ w .left; kept = msg′ } ∷ k w x rx msg′
+onRun E held msg k unended = []
 
 -- a list of calls; the log ends early where a call does not end
 unfoldable pub logOf : {X : Type 0} → Engine X → Host → List Call → World → X → List ℕ → List ℕ → List Entry
 logOf E h [] w x rx msg = []
-logOf E h (q ∷ qs) w x rx msg = onRun E (E .holds x rx) (λ w′ x′ rx′ msg′. logOf E h qs w′ x′ rx′ msg′) (runCall E h q w x rx msg)
+logOf E h (q ∷ qs) w x rx msg = onRun E (E .holds x rx) msg (λ w′ x′ rx′ msg′. logOf E h qs w′ x′ rx′ msg′) (runCall E h q w x rx msg)
