@@ -10,11 +10,15 @@ ghost use mathlib.Core.List.{List, [], _∷_, _++_};
 ghost use mathlib.Core.Path.{_≡_};
 ghost use Prim.Native.Nat.{_+_, _≤_};
 ghost use lib.ListN.{length};
+ghost use Rattle.protocol.specs.Bytes.{put};
 ghost use Rattle.protocol.specs.Ids.{letters, published, SEND};
 ghost use Rattle.protocol.specs.Messages.{rcv2, send, snd2, word, comma, joined, bytesOfRequest};
 ghost use Rattle.format_id.specs.Ids.{idOf};
 ghost use Rattle.request.specs.Meaning.{meant};
 ghost use Rattle.message.specs.Composed.{placed, begun};
+
+// As much data as is worth an aligned start.
+const MUCH: usize = 4096;
 
 // Id and arg at the front of out, and their length; 0, and nothing altered, where they do not fit.
 pub fn write_header(out: &mut [u8], id: SyncId, arg: u32) -> usize
@@ -27,6 +31,20 @@ pub fn write_header(out: &mut [u8], id: SyncId, arg: u32) -> usize
     put_bytes(out, 0, &letters);
     put_u32(out, 4, arg);
     8
+}
+
+// What is lent, behind the header. Of much, the first eight bytes go by themselves: a wide store of the others then falls on a whole
+// word of 16 bytes, where out does.
+fn put_lent(out: &mut [u8], lent: &[u8])
+    requires { ⌜ 8 + length (now lent) ≤ length (now out) ⌝ }
+    ensures { λ _. ⌜ now (out .exit) ≡ put (now (out .entry)) 8 (now (lent .entry)) ⌝ }
+{
+    if lent.len() < MUCH {
+        put_bytes(out, 8, lent);
+        return;
+    }
+    put_bytes(out, 8, &lent[0..8]);
+    put_bytes(out, 16, &lent[8..]);
 }
 
 // The header and what is lent, where rest bytes more fit behind them. The arg is the low 32 bits of count.
@@ -45,7 +63,7 @@ fn begin(out: &mut [u8], id: SyncId, count: usize, lent: &[u8], rest: usize) -> 
     }
     let arg = (count % 0x1_0000_0000) as u32;
     write_header(out, id, arg);
-    put_bytes(out, 8, lent);
+    put_lent(out, lent);
     8 + lent.len()
 }
 
