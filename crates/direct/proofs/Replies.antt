@@ -1,24 +1,22 @@
 -- A read that completes a stat's reply, taken at once, is its crossing. Assumes nothing.
-use mathlib.Core.Bool.{Bool, true, false, _&&_, and-eq-true-iff}
+use mathlib.Core.Bool.{Bool, true, false, and-eq-true-iff}
 use mathlib.Core.List.{List}
-use mathlib.Core.Path.{_≡_, refl, sym, ap, _∙_}
-use Prim.Native.Nat.{ℕ, _+_, _-_, _≤_, _<_}
+use mathlib.Core.Path.{_≡_, refl, sym, _∙_}
+use Prim.Native.Nat.{ℕ, _+_, _≤_}
 use native.Mathlib.Decide.{ℕ-discrete}
 use native.Mathlib.Omega.{arith}
-use borrow.Author.Tests.{lt-ltb, le-ltb, le-leb, eq-eqb, ne-eqb, ltb-true, leb-true}
-use lib.Dec.{ltb, leb}
+use borrow.Author.Tests.{le-leb, eq-eqb}
+use lib.Dec.{leb}
 use lib.ListN.{length}
-use Rattle.boundary.specs.Crossing.{crossed, isRefusal, back, stays, backRead, crossRead}
+use Rattle.boundary.specs.Crossing.{crossed, isRefusal, backRead, crossRead}
 use Rattle.boundary.specs.Told.{replyNumber, outSize}
-use Rattle.record.specs.Fields.{isOne, wantState, sessionOf}
+use Rattle.record.specs.Fields.{isOne, wantState}
 use Rattle.record.specs.Record.{wordOf}
 use Rattle.recv_buf.specs.RecvBuf.{cursor, heldBytes}
 use Rattle.session.specs.Phases.{statSizeOf}
-use Rattle.session.specs.Reports.{refusalAt, readIn, readAt, reportRead}
 use Rattle.session.specs.State as S
-use Rattle.session.specs.State.{St, st, stepped, at, begun, Good}
-use Rattle.session.specs.Steps.{told}
-use Rattle.session.specs.declared.Pending.{Pending}
+use Rattle.session.specs.State.{St, stepped, at, begun}
+use Rattle.session.specs.Steps.{readOn, told}
 use Rattle.session.specs.declared.Pending.the-variants.{Idle, Reading}
 use Rattle.session.specs.declared.Phase.the-variants.{Header}
 use Rattle.session.specs.declared.Reply.the-variants.{Told}
@@ -26,9 +24,10 @@ use Rattle.session.specs.declared.Version.{Version}
 use Rattle.session.specs.declared.Version.the-variants.{V1, V2}
 use Rattle.session.specs.declared.Want.the-variants as W
 use Rattle.standing.specs.Standing.{numberIn, Stands}
-use Rattle.standing.proofs.Laws.{number-in, stands-in}
-use Rattle.direct.specs.Direct.{tried, cameIn, isStat, statTold, statCame, statDone, statVersion, statNow}
-use Rattle.direct.proofs.Taken.{ses, good, head-same, tail-same, lent-same, pending-at, no-report-refusal, done-tried}
+use Rattle.standing.proofs.Laws.{stands-in}
+use Rattle.direct.specs.Direct.{tried, cameIn, metBy, isStat, statTold, statCame, statDone, statVersion, statNow}
+use Rattle.direct.proofs.Arrivals.{Met, met-of, came, good-came, read-met}
+use Rattle.direct.proofs.Taken.{ses, head-same, tail-same, lent-same, pending-at, done-tried}
 use Rattle.direct.proofs.Whole.{dropped, whole-stat}
 
 -- a stat is no refusal, and its number is 0
@@ -41,25 +40,8 @@ unfolding replyNumber
 number-told V1 x = refl
 number-told V2 x = refl
 
--- what came, taken apart
-record Came (rec rx : List ℕ) (k : ℕ) (v : Version) : Type 0 where
-  some : 0 < k
-  fits : k ≤ length rx - numberIn rec 3
-  met : numberIn rec 9 ≤ numberIn rec 3 + k
-  stat : isStat v (cameIn rec rx k) ≡ true
-
-came-of : (rec rx : List ℕ) (k : ℕ) (v : Version) → statCame rec rx k v ≡ true → Came rec rx k v
-came-of rec rx k v e =
-    let (a, s) = and-eq-true-iff (ltb 0 k && leb k (length rx - numberIn rec 3) && leb (numberIn rec 9) (numberIn rec 3 + k)) (isStat v (cameIn rec rx k)) .0 e in
-    let (b, m) = and-eq-true-iff (ltb 0 k && leb k (length rx - numberIn rec 3)) (leb (numberIn rec 9) (numberIn rec 3 + k)) .0 a in
-    let (p, f) = and-eq-true-iff (ltb 0 k) (leb k (length rx - numberIn rec 3)) .0 b in
-    record { some = ltb-true _ _ p; fits = leb-true _ _ f; met = leb-true _ _ m; stat = s }
-
 module _ (rec rx msg lent out : List ℕ) (h : Stands rec (length rx) (length msg)) (o : outSize ≤ length out)
     (same : length lent ≡ numberIn rec 4) (v : Version) (state : numberIn rec 7 ≡ wantState (W.Stat v)) where
-  abbrev s : St
-  s = st (ses rec rx msg h) rx msg
-
   awaits : ses rec rx msg h .pending ≡ Reading (Header (W.Stat v)) (wordOf rec 9) (isOne (wordOf rec 8))
   awaits = by v state
     where
@@ -67,51 +49,16 @@ module _ (rec rx msg lent out : List ℕ) (h : Stands rec (length rx) (length ms
       by V1 e = pending-at rec rx msg h 13 e
       by V2 e = pending-at rec rx msg h 14 e
 
-  let-in : refusalAt s (length lent) ≡ 0
-  let-in = no-report-refusal rec rx msg h (length lent) same _ awaits refl
-
-  module _ (k : ℕ) (c : Came rec rx k v) where
+  module _ (k : ℕ) (m : Met rec rx k) (r : isStat v (cameIn rec rx k) ≡ true) where
     -- the session, once the bytes have come
     abbrev t : St
-    t = st (at (ses rec rx msg h) (cursor (s .ses .buf .head) (s .ses .buf .tail + k)) Idle) rx msg
-
-    good-came : Good t
-    good-came =
-        let g = good rec rx msg h 0 in
-        let e = tail-same rec rx msg h in
-        record { order = omega (arith, g); inside = omega (arith, g, c .fits); rx = g .rx; least = g .least; aside = g .aside; msg = g .msg }
+    t = came rec rx msg h k
 
     stat-came : isStat v (heldBytes rx (t .ses .buf)) ≡ true
-    stat-came = rw (head-same rec rx msg h, tail-same rec rx msg h) at (c .stat)
+    stat-came = rw (head-same rec rx msg h, tail-same rec rx msg h) at r
 
-    -- the tests on the way
-    room : k ≤ ses rec rx msg h .capacity - ses rec rx msg h .buf .tail
-    room = let g = good rec rx msg h 0 in let e = tail-same rec rx msg h in omega (arith, c .fits, g .rx)
-
-    met : wordOf rec 9 ≤ ses rec rx msg h .buf .tail + k
-    met = let e = tail-same rec rx msg h in omega (arith, c .met, number-in rec 9 (h .sized))
-
-    not-short : stays s (length lent) k ≡ false
-    not-short =
-        rw (
-          let-in,
-          awaits,
-          lt-ltb 0 k (c .some),
-          le-leb k (ses rec rx msg h .capacity - ses rec rx msg h .buf .tail) room,
-          le-ltb (ses rec rx msg h .buf .tail + k) (wordOf rec 9) met,
-        )
-
-    stat-stepped : told (dropped t (statSizeOf v)) (statTold v (heldBytes rx (t .ses .buf))) ≡ reportRead s (length lent) k
-    unfolding reportRead readAt readIn
-    stat-stepped =
-        rw (
-          let-in,
-          awaits,
-          ne-eqb k 0 (λ e. omega (arith, c .some, e)),
-          le-ltb (ses rec rx msg h .capacity - ses rec rx msg h .buf .tail) k room,
-          le-ltb (ses rec rx msg h .buf .tail + k) (wordOf rec 9) met,
-        )
-        (sym (whole-stat t good-came v (isOne (wordOf rec 8)) stat-came))
+    stat-stepped : told (dropped t (statSizeOf v)) (statTold v (heldBytes rx (t .ses .buf))) ≡ readOn t (Header (W.Stat v)) (isOne (wordOf rec 8))
+    stat-stepped = sym (whole-stat t (good-came rec rx msg h k m) v (isOne (wordOf rec 8)) stat-came)
 
     place : S.out (stepped (at (begun (ses rec rx msg h) (numberIn rec 4)) (cursor (numberIn rec 2 + statSizeOf v) (numberIn rec 3 + k)) Idle) (Told (statTold v (cameIn rec rx k)))) rx msg
         ≡ told (dropped t (statSizeOf v)) (statTold v (heldBytes rx (t .ses .buf)))
@@ -146,7 +93,10 @@ module _ (rec rx msg lent out : List ℕ) (h : Stands rec (length rx) (length ms
         le-leb outSize (length out) o,
         version-of,
       ))
-      (λ z. let c = came-of rec rx k v z in ap (back rec out) (place k c ∙ stat-stepped k c) ∙ rw (not-short k c))
+      (λ z.
+      let (a, r) = and-eq-true-iff (metBy rec rx k) (isStat v (cameIn rec rx k)) .0 z in
+      let m = met-of rec rx k a in
+      read-met rec rx msg h lent same (Header (W.Stat v)) awaits k m out _ (place k m r ∙ stat-stepped k m r))
       e
 
 -- the version of a state

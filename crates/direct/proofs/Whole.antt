@@ -1,11 +1,12 @@
--- What is held whole is answered at once: the turns of a listing step and of a stat's reply, one after another. Assumes nothing.
+-- What is held whole is answered at once: the turns of a listing step and of a stat's reply, one after another; and what is not, is read
+-- for. Assumes nothing.
 use mathlib.Core.Bool.{Bool, true, false, _&&_, and-eq-true-iff}
 use mathlib.Core.List.{List}
 use mathlib.Core.Path.{_≡_, refl, sym, ap, _∙_}
 use Prim.Native.Nat.{ℕ, zero, suc, _+_, _-_, _≤_, _<_}
 use native.Mathlib.Nat.{add-zero, add-assoc, lt-irrefl}
 use native.Mathlib.Omega.{arith}
-use borrow.Author.Tests.{leb-true}
+use borrow.Author.Tests.{lt-ltb, leb-true}
 use lib.Dec.{eqb, leb}
 use lib.ListN.{length, take, drop}
 use Rattle.protocol.specs.Bytes.{pick, same}
@@ -13,13 +14,14 @@ use Rattle.protocol.specs.Ids.{letters}
 use Rattle.protocol.specs.Records.{Stat as PanelStat, Stat2, Dent, Dent2, idAt, statAt, stat2At, dentAt, dent2At}
 use Rattle.protocol.proofs.Bytes.{same-eq}
 use Rattle.format_record.specs.Told.{statOf, stat2Of, dentOf, dent2Of}
-use Rattle.pump.proofs.Hops.{hopped-turns}
+use Rattle.pump.proofs.Hops.{hopped-asks, hopped-turns}
 use Rattle.recv_buf.specs.RecvBuf.{cursor, heldCount, heldBytes}
 use Rattle.recv_buf.proofs.Laws.{held-length}
 use Rattle.session.proofs.Buf.{id-in, stat-in, stat2-in, dent-in, dent2-in, sound-of, view}
 use Rattle.session.specs.Phases.{wants, statSizeOf, entrySizeOf, statIdOf, entryIdOf, stopping, going, headed, entryTurn, turnAt}
+use Rattle.session.specs.State as S
 use Rattle.session.specs.State.{St, st, at, Good}
-use Rattle.session.specs.Steps.{kept, turnOf, pumped, readOn, told}
+use Rattle.session.specs.Steps.{reading, asked, kept, turnOf, pumped, readOn, told}
 use Rattle.session.specs.declared.Answer.{Answer}
 use Rattle.session.specs.declared.Answer.the-variants as A
 use Rattle.session.specs.declared.Pending.the-variants.{Idle}
@@ -39,13 +41,20 @@ dropped s n = st (at (s .ses) (cursor (s .ses .buf .head + n) (s .ses .buf .tail
 
 module _ (s : St) (p : Phase) (lost : Bool) (fits : wants (s .ses .capacity) p ≤ s .ses .capacity)
     (there : wants (s .ses .capacity) p ≤ heldCount (s .ses .buf)) where
-  turn-goes : (k n : ℕ) (q : Phase) → turnOf s p ≡ going n q → pumped (suc k) s p lost ≡ pumped k (dropped s n) q lost
+  pub turn-goes : (k n : ℕ) (q : Phase) → turnOf s p ≡ going n q → pumped (suc k) s p lost ≡ pumped k (dropped s n) q lost
   unfolding pumped kept
   turn-goes k n q e = rw (hopped-turns s p lost fits there, e)
 
-  turn-stops : (k n : ℕ) (a : Answer) → turnOf s p ≡ stopping n a → pumped (suc k) s p lost ≡ told (dropped s n) a
+  pub turn-stops : (k n : ℕ) (a : Answer) → turnOf s p ≡ stopping n a → pumped (suc k) s p lost ≡ told (dropped s n) a
   unfolding pumped kept
   turn-stops k n a e = rw (hopped-turns s p lost fits there, e)
+
+-- ... and one whose bytes are not: with room behind what is held, they are read for
+pub turn-asks : (s : St) (p : Phase) (lost : Bool) (k : ℕ) → wants (s .ses .capacity) p ≤ s .ses .capacity
+    → heldCount (s .ses .buf) < wants (s .ses .capacity) p → s .ses .buf .tail < s .ses .capacity
+    → pumped (suc k) s p lost ≡ S.out (reading (s .ses) (s .ses .buf .head) (s .ses .buf .tail) p lost) (s .rx) (s .msg)
+unfolding pumped asked
+turn-asks s p lost k f h t = rw (hopped-asks s p lost f h, lt-ltb (s .ses .buf .tail) (s .ses .capacity) t)
 
 -- ---- an entry
 

@@ -95,10 +95,13 @@ statTold V2 x = A.StatV2 (stat2Of (stat2At x))
 abbrev pub cameIn : (rec rx : List ℕ) → (k : ℕ) → List ℕ
 cameIn rec rx k = heldBytes rx (cursor (numberIn rec 2) (numberIn rec 3 + k))
 
--- k bytes that came into the window, up to where the need is met, and with them a stat's reply
+-- k bytes that came into the window, up to where the need is met
+abbrev pub metBy : (rec rx : List ℕ) → (k : ℕ) → Bool
+metBy rec rx k = ltb 0 k && leb k (length rx - numberIn rec 3) && leb (numberIn rec 9) (numberIn rec 3 + k)
+
+-- ... and with them a stat's reply
 abbrev pub statCame : (rec rx : List ℕ) → (k : ℕ) → Version → Bool
-statCame rec rx k v =
-    ltb 0 k && leb k (length rx - numberIn rec 3) && leb (numberIn rec 9) (numberIn rec 3 + k) && isStat v (cameIn rec rx k)
+statCame rec rx k v = metBy rec rx k && isStat v (cameIn rec rx k)
 
 -- the record and the reply then
 abbrev pub statDone : (rec rx : List ℕ) → (k : ℕ) → Version → (out : List ℕ) → Bool × List ℕ × List ℕ

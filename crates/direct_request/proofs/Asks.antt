@@ -1,11 +1,11 @@
 -- A stat whose message is out, and which awaits the header of its reply at once: this is its crossing. Assumes nothing.
-use mathlib.Core.Bool.{Bool, true, false, _&&_, and-eq-true-iff}
+use mathlib.Core.Bool.{Bool, true, false, and-eq-true-iff}
 use mathlib.Core.List.{List}
 use mathlib.Core.Path.{_≡_, refl, sym, ap, _∙_}
 use Prim.Native.Nat.{ℕ, _+_, _-_, _≤_, _<_}
 use native.Mathlib.Decide.{ℕ-discrete}
 use native.Mathlib.Omega.{arith}
-use borrow.Author.Tests.{lt-ltb, le-leb, eq-eqb, ltb-true}
+use borrow.Author.Tests.{le-leb, eq-eqb, ltb-true}
 use lib.Dec.{eqb, ltb, leb}
 use lib.ListN.{length}
 use Rattle.protocol.specs.Bytes.{pick}
@@ -13,7 +13,7 @@ use Rattle.boundary.specs.Crossing.{crossed, back, crossWrote}
 use Rattle.boundary.specs.Told.{replyNumber, outSize}
 use Rattle.direct.specs.Direct.{tried}
 use Rattle.direct.proofs.Taken.{ses, head-same, tail-same, lent-same, pending-at, no-report-refusal, done-tried}
-use Rattle.pump.proofs.Hops.{hopped-asks}
+use Rattle.direct.proofs.Whole.{turn-asks}
 use Rattle.record.specs.Fields.{wantState}
 use Rattle.record.specs.Record.{wordOf}
 use Rattle.recv_buf.specs.RecvBuf.{cursor, heldCount}
@@ -22,26 +22,18 @@ use Rattle.request.specs.declared.Request.the-variants as Q
 use Rattle.session.specs.Phases.{wants}
 use Rattle.session.specs.Reports.{refusalAt, wroteAt, reportWrote}
 use Rattle.session.specs.State as S
-use Rattle.session.specs.State.{St, st, stepped, at, begun, Good}
-use Rattle.session.specs.Steps.{reading, asked, pumped, readOn, resumed, wroteOn}
+use Rattle.session.specs.State.{St, st, stepped, at, begun}
+use Rattle.session.specs.Steps.{reading, readOn, resumed, wroteOn}
 use Rattle.session.specs.declared.Pending.{Pending}
 use Rattle.session.specs.declared.Pending.the-variants.{Reading, Writing}
-use Rattle.session.specs.declared.Phase.{Phase}
 use Rattle.session.specs.declared.Phase.the-variants.{Header}
 use Rattle.session.specs.declared.Reply.the-variants as R
 use Rattle.session.specs.declared.Version.{Version}
 use Rattle.session.specs.declared.Version.the-variants.{V1, V2}
-use Rattle.session.specs.declared.Want.{Want}
 use Rattle.session.specs.declared.Want.the-variants as W
 use Rattle.standing.specs.Standing.{numberIn, Stands, plainStep}
 use Rattle.standing.proofs.Laws.{number-in, fits-of, stands-in}
 use Rattle.direct_request.specs.Asking.{headerShort, headerDone, sentNow}
-
--- a header that is short of its 8 bytes, with room behind what is held, is read for
-header-asked : (s : St) (w : Want) (lost : Bool) → Good s → heldCount (s .ses .buf) < 8 → s .ses .buf .tail < s .ses .capacity
-    → readOn s (Header w) lost ≡ S.out (reading (s .ses) (s .ses .buf .head) (s .ses .buf .tail) (Header w) lost) (s .rx) (s .msg)
-unfolding pumped asked wants
-header-asked s w lost g h t = rw (hopped-asks s (Header w) lost (g .least) h, lt-ltb (s .ses .buf .tail) (s .ses .capacity) t)
 
 -- the request of a stat, and its state
 abbrev statRequest : Version → Request
@@ -83,13 +75,13 @@ module _ (rec rx msg lent out : List ℕ) (h : Stands rec (length rx) (length ms
 
   header-stepped : heldCount (ses rec rx msg h .buf) < 8 → ses rec rx msg h .buf .tail < ses rec rx msg h .capacity
       → S.out (reading (ses rec rx msg h) (ses rec rx msg h .buf .head) (ses rec rx msg h .buf .tail) (Header (W.Stat v)) false) rx msg ≡ reportWrote s lent
-  unfolding reportWrote
+  unfolding reportWrote wants
   header-stepped c t =
       rw let-in
       (sym (ap (λ (p : Pending). wroteAt p s lent) writes
       ∙ wrote-whole (statRequest v) (wordOf rec 10)
       ∙ resumes v s (wordOf rec 10) lent
-      ∙ header-asked s (W.Stat v) false (fits-of rec (length rx) (length msg) h) c t))
+      ∙ turn-asks s (Header (W.Stat v)) false 3 (fits-of rec (length rx) (length msg) h .least) c t))
 
   place : S.out (stepped (at (begun (ses rec rx msg h) (numberIn rec 4)) (cursor (numberIn rec 2) (numberIn rec 3)) (Reading (Header (W.Stat v)) (numberIn rec 2 + 8) false))
       (R.Read (numberIn rec 3) (length rx - numberIn rec 3))) rx msg

@@ -1,0 +1,2 @@
+-- `Awaits`: a header that is awaited at once.
+mod Awaits
