@@ -1,2 +1,3 @@
--- `Awaits`: a header that is awaited at once.
+-- `Awaits`: a header that is awaited at once. `Bodies`: a body that a read completes.
 mod Awaits
+mod Bodies

@@ -1,13 +1,16 @@
 -- When the steps of a pull's chunk are taken at once, and that each then comes to its crossing.
 -- Assumes nothing.
-use Prim.Native.Nat.{ℕ}
+use Prim.Native.Nat.{ℕ, _+_, _-_}
 use mathlib.Core.Bool.{Bool, _&&_}
 use mathlib.Core.List.{List}
 use lib.Dec.{eqb, leb}
 use lib.ListN.{length}
 use Rattle.boundary.specs.Told.{outSize}
-use Rattle.direct.specs.Direct.{done}
+use Rattle.protocol.specs.Bytes.{pick}
+use Rattle.direct.specs.Direct.{done, metBy}
+use Rattle.record.specs.Fields.{low}
 use Rattle.record.specs.Record.{loaded}
+use Rattle.session.specs.declared.Answer.the-variants as A
 use Rattle.session.specs.declared.Reply.the-variants as R
 use Rattle.standing.specs.Standing.{numberIn, standing, plainStep}
 
@@ -25,3 +28,29 @@ nextDone rec rx lent out = done (nothingHeld rec) rec 0 0 lent (plainStep 17 8) 
 abbrev pub nextNow : (rec rx msg : List ℕ) → (call : ℕ) → (out : List ℕ) → Bool
 nextNow rec rx msg call out =
     eqb call 14 && eqb (numberIn rec 7) 0 && standing (loaded rec) (length rx) (length msg) && leb outSize (length out) && nothingHeld rec
+
+-- ---- a read that completes the chunk
+
+-- where tail comes to with k more bytes; 0 where they do not meet the need
+unfoldable pub endOf : (rec rx : List ℕ) → (k : ℕ) → ℕ
+endOf rec rx k = pick (metBy rec rx k) (numberIn rec 3 + k) 0
+
+-- the length of a body that is awaited
+abbrev pub bodyLength : List ℕ → ℕ
+bodyLength rec = low (numberIn rec 12)
+
+-- k bytes that came into the window, and with them header and body
+abbrev pub bodyCame : (rec rx : List ℕ) → (k : ℕ) → Bool
+bodyCame rec rx k = metBy rec rx k && leb (8 + bodyLength rec) (numberIn rec 3 + k - numberIn rec 2)
+
+-- the record and the reply then
+abbrev pub bodyDone : (rec rx : List ℕ) → (k : ℕ) → (out : List ℕ) → Bool × List ℕ × List ℕ
+bodyDone rec rx k out =
+    done (bodyCame rec rx k) rec (numberIn rec 2 + (8 + bodyLength rec)) (numberIn rec 3 + k) (numberIn rec 4) (plainStep 0 0)
+    (R.Told (A.Chunk (numberIn rec 2 + 8) (bodyLength rec))) out
+
+-- state 28
+abbrev pub bodyNow : (rec rx msg lent : List ℕ) → (k : ℕ) → (out : List ℕ) → Bool
+bodyNow rec rx msg lent k out =
+    eqb (numberIn rec 7) 28 && standing (loaded rec) (length rx) (length msg) && eqb (length lent) (numberIn rec 4) && leb outSize (length out)
+    && bodyCame rec rx k

@@ -1,12 +1,14 @@
 // The steps of a pull's chunk, taken at once on the numbers of a lent record (as in `direct`): its header is awaited, its body is awaited,
 // and it is told.
 ghost use mathlib.Core.Path.{_≡_};
-ghost use Prim.Native.Nat.{ℕ};
+ghost use Prim.Native.Nat.{ℕ, _≤_};
 ghost use lib.ListN.{length};
-ghost use Rattle.boundary.specs.Crossing.{crossed, crossStart};
+ghost use Rattle.boundary.specs.Crossing.{crossed, crossStart, crossRead};
 ghost use Rattle.direct.specs.Direct.{tried};
 ghost use Rattle.record.specs.Record.{size};
-ghost use Rattle.direct_chunk.specs.Chunks.{nextDone, nextNow};
+ghost use Rattle.standing.specs.Standing.{numberIn};
+ghost use Rattle.direct_chunk.specs.Chunks.{nextDone, nextNow, endOf, bodyDone, bodyNow};
+use reply::put_three;
 use reply::put_two;
 use standing::number;
 use standing::stands;
@@ -41,6 +43,78 @@ pub fn next(rec: &mut [u8], rx: &[u8], msg: &[u8], lent: &[u8], call: u32, out: 
                     return false;
                 }
                 return await_header(rec, rx.len(), lent.len(), out);
+            }
+            return false;
+        }
+        return false;
+    }
+    false
+}
+
+// ---- a read that completes the chunk
+
+// Where tail comes to with count more bytes; 0 where they do not meet the need.
+fn met(rec: &[u8], rx: &[u8], count: usize) -> usize
+    requires { ⌜ numberIn (now rec) 3 ≤ length (now rx) ⌝ }
+    ensures { λ r. ⌜ r ≡ endOf (now (rec .entry)) (now (rx .entry)) count ⌝ }
+{
+    let tail = number(rec, 3);
+    if count == 0 {
+        return 0;
+    }
+    let free = rx.len() - tail;
+    if free < count {
+        return 0;
+    }
+    let end = tail + count;
+    if end < number(rec, 9) {
+        return 0;
+    }
+    end
+}
+
+// The chunk behind the header at head, with count more bytes behind tail, and head moved past it; nothing where it is not whole.
+fn tell_chunk(rec: &mut [u8], rx: &[u8], count: usize, out: &mut [u8]) -> bool
+    requires { ⌜ (length (now rec) ≡ size) × (numberIn (now rec) 2 ≤ numberIn (now rec) 3) × (numberIn (now rec) 3 ≤ length (now rx)) ⌝ }
+    ensures { λ r. ⌜ (r, now (rec .exit), now (out .exit)) ≡ bodyDone (now (rec .entry)) (now (rx .entry)) count (now (out .entry)) ⌝ }
+{
+    let end = met(rec, rx, count);
+    if end == 0 {
+        return false;
+    }
+    let head = number(rec, 2);
+    let held = end - head;
+    let n = number(rec, 12) % 0x1_0000_0000;
+    let whole = 8 + n;
+    if held < whole {
+        return false;
+    }
+    let lent = number(rec, 4);
+    let at = head + 8;
+    let next = head + whole;
+    put_three(out, 6, at as u64, n as u64);
+    store_plain(rec, next, end, lent, 0, 0);
+    true
+}
+
+// count bytes were read into the window of a chunk whose body is awaited.
+pub fn body(
+    rec: &mut [u8],
+    rx: &[u8],
+    msg: &[u8],
+    lent: &[u8],
+    count: usize,
+    out: &mut [u8],
+) -> bool
+    ensures { λ r. ⌜ (r, crossed (now (rec .exit)) (now (rx .entry)) (now (msg .entry)) (now (out .exit)) 0) ≡ tried (bodyNow (now (rec .entry)) (now (rx .entry)) (now (msg .entry)) (now (lent .entry)) count (now (out .entry))) (crossRead (now (rec .entry)) (now (rx .entry)) (now (msg .entry)) (now (lent .entry)) count (now (out .entry))) (crossed (now (rec .entry)) (now (rx .entry)) (now (msg .entry)) (now (out .entry)) 0) ⌝ }
+{
+    if number(rec, 7) == 28 {
+        if stands(rec, rx.len(), msg.len()) {
+            if lent.len() == number(rec, 4) {
+                if out.len() < REPLY {
+                    return false;
+                }
+                return tell_chunk(rec, rx, count, out);
             }
             return false;
         }

@@ -76,7 +76,8 @@ pub fn put_two(out: &mut [u8], a: u64, b: u64)
     put_u64(out, 8, b);
 }
 
-fn put_three(out: &mut [u8], a: u64, b: u64, c: u64)
+// Three numbers, likewise.
+pub fn put_three(out: &mut [u8], a: u64, b: u64, c: u64)
     ensures { λ _. ⌜ now (out .exit) ≡ put (now (out .entry)) 0 (words (a ∷ b ∷ c ∷ [])) ⌝ }
 {
     if out.len() < 24 {
