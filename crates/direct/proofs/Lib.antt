@@ -2,7 +2,7 @@
 -- and tells them. `Taken`: the crossing of a record that stands. `Arrivals`: a read that meets its need. `Listing`, `Replies`: a listing step
 -- and a read that are taken at once are their crossings.
 pub mod Whole
-mod Entries
+pub mod Entries
 mod Stats
 pub mod Taken
 pub mod Arrivals

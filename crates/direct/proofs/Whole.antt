@@ -152,7 +152,7 @@ module _ (s : St) (g : Good s) where
   y = drop (s .ses .buf .head) (s .rx)
 
   -- what the first n bytes tell, those that are held tell
-  sees : {A : Type 0} (f : List ℕ → A) (n : ℕ) → ((l : List ℕ) → f (take n l) ≡ f l) → n ≤ heldCount (s .ses .buf) → f x ≡ f y
+  pub sees : {A : Type 0} (f : List ℕ → A) (n : ℕ) → ((l : List ℕ) → f (take n l) ≡ f l) → n ≤ heldCount (s .ses .buf) → f x ≡ f y
   sees f n e h = sym (e x) ∙ ap f (view s g n h) ∙ e y
 
   name-seen : (v : Version) → entrySizeOf v ≤ heldCount (s .ses .buf) → nameLengthOf v x ≡ nameLengthOf v y

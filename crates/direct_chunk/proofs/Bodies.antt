@@ -1,8 +1,8 @@
 -- A read that completes a chunk's body, taken at once, is its crossing. Assumes nothing.
-use mathlib.Core.Bool.{Bool, true, false, and-eq-true-iff}
+use mathlib.Core.Bool.{Bool, and-eq-true-iff}
 use mathlib.Core.List.{List}
 use mathlib.Core.Path.{_≡_, refl, sym, _∙_}
-use Prim.Native.Nat.{ℕ, _+_, _-_, _≤_, _<_}
+use Prim.Native.Nat.{ℕ, _+_, _-_, _≤_}
 use native.Mathlib.Omega.{arith}
 use borrow.Author.Tests.{le-leb, eq-eqb, leb-true}
 use lib.Dec.{leb}
@@ -26,32 +26,7 @@ use Rattle.session.specs.declared.Phase.the-variants.{Body}
 use Rattle.session.specs.declared.Reply.the-variants.{Told}
 use Rattle.standing.specs.Standing.{numberIn, Stands}
 use Rattle.standing.proofs.Laws.{number-in, stands-in}
-use Rattle.direct_chunk.specs.Chunks.{endOf, bodyLength, bodyCame, bodyDone, bodyNow}
-
--- the cases of `endOf`, as the code tells them apart
-module _ (rec rx : List ℕ) (k : ℕ) where
-  pub end-out : metBy rec rx k ≡ false → 0 ≡ endOf rec rx k
-  unfolding endOf
-  end-out e = rw e
-
-  pub end-in : metBy rec rx k ≡ true → numberIn rec 3 + k ≡ endOf rec rx k
-  unfolding endOf
-  end-in e = rw e
-
-  module _ (e : ℕ) (f : e ≡ endOf rec rx k) where
-    pub unmet : e ≡ 0 → metBy rec rx k ≡ false
-    unmet z = go (metBy rec rx k) refl
-      where
-        go : (b : Bool) → metBy rec rx k ≡ b → b ≡ false
-        go true p = let m = met-of rec rx k p in let i = end-in p in absurd (omega (arith, m .some, f, i))
-        go false p = refl
-
-    pub met-at : 0 < e → (metBy rec rx k ≡ true) × (e ≡ numberIn rec 3 + k)
-    met-at h = go (metBy rec rx k) refl
-      where
-        go : (b : Bool) → metBy rec rx k ≡ b → (b ≡ true) × (e ≡ numberIn rec 3 + k)
-        go true p = (refl, f ∙ sym (end-in p))
-        go false p = let i = end-out p in absurd (omega (arith, f, i))
+use Rattle.direct_chunk.specs.Chunks.{bodyLength, bodyCame, bodyDone, bodyNow}
 
 module _ (rec rx msg lent out : List ℕ) (h : Stands rec (length rx) (length msg)) (o : outSize ≤ length out)
     (same : length lent ≡ numberIn rec 4) (state : numberIn rec 7 ≡ 28) where

@@ -3,16 +3,18 @@
 use Prim.Native.Nat.{ℕ, _+_, _-_}
 use mathlib.Core.Bool.{Bool, _&&_}
 use mathlib.Core.List.{List}
-use lib.Dec.{eqb, leb}
+use lib.Dec.{eqb, ltb, leb}
 use lib.ListN.{length}
 use Rattle.boundary.specs.Told.{outSize}
-use Rattle.protocol.specs.Bytes.{pick}
-use Rattle.direct.specs.Direct.{done, metBy}
+use Rattle.protocol.specs.Bytes.{pick, same}
+use Rattle.protocol.specs.Ids.{letters, DATA}
+use Rattle.protocol.specs.Records.{idAt, argAt}
+use Rattle.direct.specs.Direct.{done, metBy, cameIn}
 use Rattle.record.specs.Fields.{low}
 use Rattle.record.specs.Record.{loaded}
 use Rattle.session.specs.declared.Answer.the-variants as A
 use Rattle.session.specs.declared.Reply.the-variants as R
-use Rattle.standing.specs.Standing.{numberIn, standing, plainStep}
+use Rattle.standing.specs.Standing.{numberIn, standing, stepOf, plainStep}
 
 -- ---- the header is awaited
 
@@ -29,11 +31,38 @@ abbrev pub nextNow : (rec rx msg : List ℕ) → (call : ℕ) → (out : List �
 nextNow rec rx msg call out =
     eqb call 14 && eqb (numberIn rec 7) 0 && standing (loaded rec) (length rx) (length msg) && leb outSize (length out) && nothingHeld rec
 
--- ---- a read that completes the chunk
+-- ---- a read that completes the header
 
 -- where tail comes to with k more bytes; 0 where they do not meet the need
 unfoldable pub endOf : (rec rx : List ℕ) → (k : ℕ) → ℕ
 endOf rec rx k = pick (metBy rec rx k) (numberIn rec 3 + k) 0
+
+-- x begins with a chunk that fits c bytes, and has not all of it
+abbrev pub bodyShort : (x : List ℕ) → (c : ℕ) → Bool
+bodyShort x c = leb 8 (length x) && same (idAt x) (letters DATA) && leb (8 + argAt x) c && ltb (length x) (8 + argAt x)
+
+-- how many bytes it takes, its header included; 0 where there is none
+unfoldable pub shortLength : (x : List ℕ) → (c : ℕ) → ℕ
+shortLength x c = pick (bodyShort x c) (8 + argAt x) 0
+
+-- k bytes that came into the window, with the header, and there is room behind them
+abbrev pub headerCame : (rec rx : List ℕ) → (k : ℕ) → Bool
+headerCame rec rx k = metBy rec rx k && ltb (numberIn rec 3 + k) (length rx) && bodyShort (cameIn rec rx k) (length rx)
+
+-- the record and the reply then: the flag stays as it was
+abbrev pub headerDone : (rec rx : List ℕ) → (k : ℕ) → (out : List ℕ) → Bool × List ℕ × List ℕ
+headerDone rec rx k out =
+    let n = argAt (cameIn rec rx k) in
+    done (headerCame rec rx k) rec (numberIn rec 2) (numberIn rec 3 + k) (numberIn rec 4) (stepOf 28 (numberIn rec 8) (numberIn rec 2 + (8 + n)) 0 0 n)
+    (R.Read (numberIn rec 3 + k) (length rx - (numberIn rec 3 + k))) out
+
+-- state 17
+abbrev pub headerNow : (rec rx msg lent : List ℕ) → (k : ℕ) → (out : List ℕ) → Bool
+headerNow rec rx msg lent k out =
+    eqb (numberIn rec 7) 17 && standing (loaded rec) (length rx) (length msg) && eqb (length lent) (numberIn rec 4) && leb outSize (length out)
+    && headerCame rec rx k
+
+-- ---- a read that completes the chunk
 
 -- the length of a body that is awaited
 abbrev pub bodyLength : List ℕ → ℕ

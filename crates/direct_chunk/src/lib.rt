@@ -7,15 +7,20 @@ ghost use Rattle.boundary.specs.Crossing.{crossed, crossStart, crossRead};
 ghost use Rattle.direct.specs.Direct.{tried};
 ghost use Rattle.record.specs.Record.{size};
 ghost use Rattle.standing.specs.Standing.{numberIn};
-ghost use Rattle.direct_chunk.specs.Chunks.{nextDone, nextNow, endOf, bodyDone, bodyNow};
+ghost use Rattle.direct_chunk.specs.Chunks.{nextDone, nextNow, endOf, shortLength, headerDone, headerNow, bodyDone, bodyNow};
+use format_number::u32_at;
 use reply::put_three;
 use reply::put_two;
 use standing::number;
 use standing::stands;
 use standing::store_plain;
+use standing::store_step;
 
 // The longest reply.
 const REPLY: usize = 112;
+
+// The id DATA, its lowest byte first.
+const DATA: u32 = 0x4154_4144;
 
 // ---- the header is awaited
 
@@ -51,7 +56,7 @@ pub fn next(rec: &mut [u8], rx: &[u8], msg: &[u8], lent: &[u8], call: u32, out: 
     false
 }
 
-// ---- a read that completes the chunk
+// ---- a read that completes the header
 
 // Where tail comes to with count more bytes; 0 where they do not meet the need.
 fn met(rec: &[u8], rx: &[u8], count: usize) -> usize
@@ -72,6 +77,82 @@ fn met(rec: &[u8], rx: &[u8], count: usize) -> usize
     }
     end
 }
+
+// How many bytes the chunk at the front of x takes, its header included, where it fits capacity and x has not all of it; 0 where not.
+fn short_len(x: &[u8], capacity: usize) -> usize
+    ensures { λ r. ⌜ r ≡ shortLength (now (x .entry)) capacity ⌝ }
+{
+    if x.len() < 8 {
+        return 0;
+    }
+    if u32_at(x, 0) == DATA {
+        let n = u32_at(x, 4) as usize;
+        let whole = 8 + n;
+        if capacity < whole {
+            return 0;
+        }
+        if x.len() < whole {
+            return whole;
+        }
+        return 0;
+    }
+    0
+}
+
+// Asks for the rest of the chunk at head, with count more bytes behind tail; nothing where there is no header, or no rest, or no room.
+fn await_body(rec: &mut [u8], rx: &[u8], count: usize, out: &mut [u8]) -> bool
+    requires { ⌜ (length (now rec) ≡ size) × (numberIn (now rec) 2 ≤ numberIn (now rec) 3) × (numberIn (now rec) 3 ≤ length (now rx)) ⌝ }
+    ensures { λ r. ⌜ (r, now (rec .exit), now (out .exit)) ≡ headerDone (now (rec .entry)) (now (rx .entry)) count (now (out .entry)) ⌝ }
+{
+    let end = met(rec, rx, count);
+    if end == 0 {
+        return false;
+    }
+    if end < rx.len() {
+        let head = number(rec, 2);
+        let whole = short_len(&rx[head..end], rx.len());
+        if whole == 0 {
+            return false;
+        }
+        let lent = number(rec, 4);
+        let flag = number(rec, 8);
+        let n = whole - 8;
+        let until = head + whole;
+        let len = rx.len() - end;
+        put_two(out, end as u64, len as u64);
+        store_step(rec, head, end, lent, 28, flag, until, 0, 0, n);
+        return true;
+    }
+    false
+}
+
+// count bytes were read into the window of a chunk whose header is awaited.
+pub fn header(
+    rec: &mut [u8],
+    rx: &[u8],
+    msg: &[u8],
+    lent: &[u8],
+    count: usize,
+    out: &mut [u8],
+) -> bool
+    ensures { λ r. ⌜ (r, crossed (now (rec .exit)) (now (rx .entry)) (now (msg .entry)) (now (out .exit)) 1) ≡ tried (headerNow (now (rec .entry)) (now (rx .entry)) (now (msg .entry)) (now (lent .entry)) count (now (out .entry))) (crossRead (now (rec .entry)) (now (rx .entry)) (now (msg .entry)) (now (lent .entry)) count (now (out .entry))) (crossed (now (rec .entry)) (now (rx .entry)) (now (msg .entry)) (now (out .entry)) 1) ⌝ }
+{
+    if number(rec, 7) == 17 {
+        if stands(rec, rx.len(), msg.len()) {
+            if lent.len() == number(rec, 4) {
+                if out.len() < REPLY {
+                    return false;
+                }
+                return await_body(rec, rx, count, out);
+            }
+            return false;
+        }
+        return false;
+    }
+    false
+}
+
+// ---- a read that completes the chunk
 
 // The chunk behind the header at head, with count more bytes behind tail, and head moved past it; nothing where it is not whole.
 fn tell_chunk(rec: &mut [u8], rx: &[u8], count: usize, out: &mut [u8]) -> bool

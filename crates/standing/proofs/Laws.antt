@@ -151,7 +151,7 @@ module _ (rec : List ℕ) (x m : ℕ) where
 
 -- ---- a session's numbers are its record's again
 
-one-forth : (n : ℕ) → n < 2 → bit (isOne n) ≡ n
+pub one-forth : (n : ℕ) → n < 2 → bit (isOne n) ≡ n
 one-forth zero h = refl
 one-forth (suc zero) h = refl
 one-forth (suc (suc n)) h = absurd (omega arith)

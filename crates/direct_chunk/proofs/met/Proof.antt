@@ -7,7 +7,7 @@ use borrow.Author.Tests.{lt-ltb, le-ltb, le-leb, lt-leb}
 use denote.Ref.{now}
 use lib.ListN.{length}
 use Rattle.standing.specs.Standing.{numberIn}
-use Rattle.direct_chunk.proofs.Bodies.{end-out, end-in}
+use Rattle.direct_chunk.proofs.Ends.{end-out, end-in}
 use Rattle.direct_chunk.proofs.met.Statement.{statement}
 use Rattle.direct_chunk.proofs.met.Tie as tie
 

@@ -13,7 +13,7 @@ use Rattle.session.specs.declared.Answer.the-variants as A
 use Rattle.session.specs.declared.Reply.the-variants.{Told}
 use Rattle.standing.specs.Standing.{numberIn, plainStep}
 use Rattle.direct_chunk.specs.Chunks.{bodyLength, bodyCame}
-use Rattle.direct_chunk.proofs.Bodies.{unmet, met-at}
+use Rattle.direct_chunk.proofs.Ends.{unmet, met-at}
 use Rattle.direct_chunk.proofs.tell_chunk.Statement.{statement}
 use Rattle.direct_chunk.proofs.tell_chunk.Tie as tie
 
