@@ -1,4 +1,4 @@
--- When a request goes out at once, and when the header of a stat's reply is awaited at once; and that each comes to its crossing.
+-- When the header of a stat's reply is awaited at once, and what is left then.
 -- Assumes nothing.
 use Prim.Native.Nat.{ℕ, _+_, _-_}
 use mathlib.Core.Bool.{Bool, _&&_}

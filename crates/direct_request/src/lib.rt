@@ -1,5 +1,4 @@
-// Two more steps that are taken at once, on the numbers of a lent record (as in `direct`): a request that carries a path goes out, and
-// the header of a stat's reply is awaited.
+// A stat's message is out: the header of its reply is awaited at once, on the numbers of a lent record (as in `direct`).
 ghost use mathlib.Core.Path.{_≡_};
 ghost use Prim.Native.Nat.{_≤_};
 ghost use lib.ListN.{length};

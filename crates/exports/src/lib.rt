@@ -1,6 +1,9 @@
 // The exported functions: a session in a lent record, both buffers, what is lent, and a slice for the reply.
 ghost use mathlib.Core.Path.{_≡_};
+ghost use lib.ListN.{length};
 ghost use Rattle.boundary.specs.Crossing.{crossed, crossOpen, crossStart, crossRead, crossWrote, crossFault};
+ghost use Rattle.record.specs.Record.{loaded};
+ghost use Rattle.short_read.specs.Short.{shortIn};
 ghost use Rattle.exports.specs.Opened.{openCrossed};
 use anew::fault_anew;
 use anew::read_anew;
@@ -10,6 +13,9 @@ use calls::Opened;
 use calls::open;
 use direct::entry;
 use direct::stat;
+use direct_chunk::body;
+use direct_chunk::header;
+use direct_chunk::next;
 use direct_data::header_out;
 use direct_data::part_out;
 use direct_data::whole_out;
@@ -73,10 +79,34 @@ pub extern "C" fn yuglasno_start(
     if request(rec, rx, msg, lent, call, out) {
         return WRITE_RX;
     }
+    if next(rec, rx, msg, lent, call, out) {
+        return READ;
+    }
     start_anew(rec, rx, msg, lent, call, a, b, out)
 }
 
-// The same. Where the bytes leave the need short, only tail is loaded and stored.
+// count bytes were read that leave no need short: of a chunk, the short way where it can be.
+fn read_met(
+    rec: &mut [u8],
+    rx: &mut [u8],
+    msg: &mut [u8],
+    lent: &[u8],
+    count: usize,
+    out: &mut [u8],
+) -> u32
+    requires { ⌜ 0 ≡ shortIn (loaded (now rec)) (length (now rx)) (length (now msg)) (length (now lent)) count ⌝ }
+    ensures { λ r. ⌜ crossed (now (rec .exit)) (now (rx .exit)) (now (msg .exit)) (now (out .exit)) r ≡ crossRead (now (rec .entry)) (now (rx .entry)) (now (msg .entry)) (now (lent .entry)) count (now (out .entry)) ⌝ }
+{
+    if body(rec, rx, msg, lent, count, out) {
+        return TOLD;
+    }
+    if header(rec, rx, msg, lent, count, out) {
+        return READ;
+    }
+    read_anew(rec, rx, msg, lent, count, out)
+}
+
+// count bytes were read into the window. Where they leave the need short, only tail is loaded and stored.
 fn read_short(
     rec: &mut [u8],
     rx: &mut [u8],
@@ -89,7 +119,7 @@ fn read_short(
 {
     let tail = short_tail(rec, rx.len(), msg.len(), lent.len(), count);
     if tail == 0 {
-        return read_anew(rec, rx, msg, lent, count, out);
+        return read_met(rec, rx, msg, lent, count, out);
     }
     if out.len() < REPLY {
         return read_anew(rec, rx, msg, lent, count, out);

@@ -1,17 +1,17 @@
 -- `exports::read_short` meets its contract. Assumes nothing.
-use mathlib.Core.Path.{_∙_}
+use mathlib.Core.Path.{sym, _∙_}
 use native.Mathlib.Omega.{arith}
 use borrow.Author.Needs.{needs}
 use denote.Ref.{now}
-use Rattle.exports.proofs.Reading.{short-room, read-short, read-anew, read-away}
+use Rattle.exports.proofs.Reading.{short-room, read-short, read-away}
 use Rattle.exports.proofs.read_short.Statement.{statement}
 use Rattle.exports.proofs.read_short.Tie as tie
 
-long : tie.Need-returns
-long c = let a = c .before .before .before .before .before .before .before .before .before .before .before .before .before .before .before .before .before .before .before .before .before .args in c .before .before .before .before .before .before .before .before .read-anew .ensures ∙ read-anew (now (a .rec)) (now (a .rx)) (now (a .msg)) (now (a .lent)) (now (a .out)) (a .count) _ (c .before .before .before .before .before .before .before .before .before .before .before .before .before .before .short-tail .ensures) (c .before .before .before .before .before .before .before .before .before .before .before .before .before .if1 .taken)
+met : tie.Need-read-met-requires
+met c κs = sym (c .before .before .before .before .before .if1 .taken) ∙ c .before .before .before .before .before .before .short-tail .ensures
 
 away : tie.Need-returns-2
-away c = let a = c .before .before .before .before .before .before .before .before .before .before .before .before .before .before .before .before .before .before .before .before .before .before .args in c .before .before .before .before .before .before .before .before .read-anew2 .ensures ∙ read-away (now (a .rec)) (now (a .rx)) (now (a .msg)) (now (a .lent)) (now (a .out)) (a .count) (c .before .before .before .before .before .before .before .before .before .before .before .before .before .if2 .taken)
+away c = let a = c .before .before .before .before .before .before .before .before .before .before .before .before .before .before .before .before .before .before .before .before .before .before .args in c .before .before .before .before .before .before .before .before .read-anew .ensures ∙ read-away (now (a .rec)) (now (a .rx)) (now (a .msg)) (now (a .lent)) (now (a .out)) (a .count) (c .before .before .before .before .before .before .before .before .before .before .before .before .before .if2 .taken)
 
 room : tie.Need-sub-len
 room c = let a = c .before .before .before .before .before .before .before .before .before .args in short-room (now (a .rec)) (now (a .rx)) (now (a .msg)) (now (a .lent)) (now (a .out)) (a .count) _ (c .before .before .short-tail .ensures) (omega arith)
@@ -26,12 +26,12 @@ read-short-spec =
     tie.close
     (tie.spec
     (λ c κs. search needs)
-    (λ c κs. search needs)
+    met
     (λ c. search needs)
     (λ c. search needs)
     (λ c. search needs)
     (λ c. search needs)
-    long
+    (λ c. c .before .before .before .before .before .before .before .before .read-met .ensures)
     (λ c κs. search needs)
     (λ c. search needs)
     (λ c. search needs)
