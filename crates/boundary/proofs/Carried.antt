@@ -135,6 +135,10 @@ module _ (s : St) (x : Inv s) where
       let w = word-words (fields (s .ses)) (fields-wide (s .ses) (narrow-of s x)) in
       rw (w 2, w 3)
 
+  pub tail-same : exported .tail rec ≡ core .tail (s .ses)
+  unfolding stored fields
+  tail-same = word-words (fields (s .ses)) (fields-wide (s .ses) (narrow-of s x)) 3
+
   brings : (k : St → Crossed) (o : Out) → k s ≡ back rec blank o → Fine (s .ses) o → stepOf (crossing rec (s .rx) (s .msg) blank k) ≡ image o
   brings k o e f = ap stepOf (loads s (narrow-of s x) blank (omega arith) k ∙ e) ∙ back-image s blank (omega arith) o f
 

@@ -35,7 +35,7 @@ use Rattle.session.proofs.Buf.{sound-of, good-at, held-came}
 use Rattle.session.proofs.Run.{length-filling}
 use Rattle.session.proofs.Turns.{held}
 use Rattle.boundary.specs.Boundary.{exported}
-use Rattle.boundary.proofs.Carried.{image, holds-same, start-image, wrote-image, fault-image, read-image}
+use Rattle.boundary.proofs.Carried.{image, holds-same, tail-same, start-image, wrote-image, fault-image, read-image}
 use Rattle.boundary.proofs.Reports.{NarrowFault, start-fine, entry-fine, chunk-fine, read-fine, wrote-fine, fault-fine}
 use Rattle.boundary.proofs.Steps.{Inv, Fine}
 
@@ -148,16 +148,17 @@ module _ (h : Host) (z : CodedHost h) (lent : List ℕ) (short : U64 (length len
       close-same (broke e) c = fault-same _ t e c x b
 
       module _ (i len : ℕ) (at-tail : i ≡ t .ses .buf .tail) (some : 0 < len) (inside : i + len ≤ length (t .rx)) where
-        abbrev asking : Ask
-        asking = record { rest = w .left; holds = held t; at = i; len = len; before = w .pieces }
+        abbrev asking : ℕ → Ask
+        asking n = record { rest = w .left; holds = held t; at = i; len = len; before = w .pieces; brought = n }
 
         read-same : (ls : List ℕ) → w .left ≡ ls
-            → Same (grantRead exported h lent k w (image (replying t r)) asking ls) (grantRead core h lent k′ w (C.stepOf (replying t r)) asking ls)
+            → Same (grantRead exported h lent k w (image (replying t r)) i len ls) (grantRead core h lent k′ w (C.stepOf (replying t r)) i len ls)
         read-same [] e =
-            let f : ℕ → ℕ = h .junk (w .reads) in
+            rw (holds-same t x)
+            (let f : ℕ → ℕ = h .junk (w .reads) in
             let l = length-filling f (len - 0) in
-            fault-same (hasRead 0 asking w) (laid t x i at-tail [] (filling f (len - 0)) (omega arith)) (h .end) (z .end)
-            (inv-laid t x i at-tail [] (filling f (len - 0)) (omega arith)) b
+            fault-same (hasRead 0 (asking 0) w) (laid t x i at-tail [] (filling f (len - 0)) (omega arith)) (h .end) (z .end)
+            (inv-laid t x i at-tail [] (filling f (len - 0)) (omega arith)) b)
         read-same (c ∷ ls) e =
             let n : ℕ = counted (h .count (w .reads)) len (length (w .left)) in
             let v : List ℕ = take n (w .left) in
@@ -170,7 +171,7 @@ module _ (h : Host) (z : CodedHost h) (lent : List ℕ) (short : U64 (length len
             let f : Fine (t .ses) (reportRead t₁ (length lent) n) =
             read-fine t₁ x₁ n (subst (λ (j : ℕ). Bytes (heldBytes (t₁ .rx) (cursor (t .ses .buf .head) (t .ses .buf .tail + j)))) m
             (bytes-laid t x i at-tail v junk fits (bytes-take n (w .left) b))) (length lent) in
-            rw (read-image t₁ x₁ lent n f) (on (t .ses) (hasRead n asking w) (reportRead t₁ (length lent) n) f (bytes-drop n (w .left) b))
+            rw (holds-same t x, read-image t₁ x₁ lent n f) (on (t .ses) (hasRead n (asking n) w) (reportRead t₁ (length lent) n) f (bytes-drop n (w .left) b))
 
     -- one step of both runs
     granted-same : (s₀ : Session) (t : St) (r : Reply) → Fine s₀ (replying t r)
@@ -180,7 +181,7 @@ module _ (h : Host) (z : CodedHost h) (lent : List ℕ) (short : U64 (length len
     granted-same s₀ t (R.Read i len) f =
         same-if (ltb 0 len && leb (i + len) (length (t .rx))) _ _
         (λ e. let (c, d) = and-eq-true-iff (ltb 0 len) (leb (i + len) (length (t .rx))) .0 e in
-        rw (holds-same t (f .inv)) (read-same t (f .inv) (R.Read i len) i len (f .window) (ltb-true 0 len c) (leb-true _ _ d) (w .left) refl))
+        (read-same t (f .inv) (R.Read i len) i len (f .window) (ltb-true 0 len c) (leb-true _ _ d) (w .left) refl))
     granted-same s₀ t (R.WriteRx i len) f =
         same-if (leb (i + len) (length (t .rx))) _ _ (λ e. write-same t (f .inv) (R.WriteRx i len) _ (h .writes (w .writes)) (z .writes (w .writes)))
     granted-same s₀ t (R.WriteLent i len) f =
@@ -199,11 +200,11 @@ module _ (h : Host) (z : CodedHost h) (lent : List ℕ) (short : U64 (length len
 
 module _ (h : Host) (z : CodedHost h) where
   -- an entry, and what follows
-  entry-same : (u m : List ℕ) (k : World → List ℕ → List ℕ → List ℕ → List Entry) (k′ : World → Session → List ℕ → List ℕ → List Entry)
+  entry-same : (u : List ℕ) (z : ℕ) (m : List ℕ) (k : World → List ℕ → List ℕ → List ℕ → List Entry) (k′ : World → Session → List ℕ → List ℕ → List Entry)
       → ((w : World) (s : St) → Inv s → Bytes (w .left) → k w (stored (s .ses)) (s .rx) (s .msg) ≡ k′ w (s .ses) (s .rx) (s .msg))
-      → (e : Run (List ℕ)) (r : Run Session) → Same e r → onRun exported u m k e ≡ onRun core u m k′ r
-  entry-same u m k k′ on e (over-with x rx msg a w) (p, (i, b)) = ap (onRun exported u m k) p ∙ rw (holds-same (st x rx msg) i, on w (st x rx msg) i b)
-  entry-same u m k k′ on e unended p = ap (onRun exported u m k) p
+      → (e : Run (List ℕ)) (r : Run Session) → Same e r → onRun exported u z m k e ≡ onRun core u z m k′ r
+  entry-same u z m k k′ on e (over-with x rx msg a w) (p, (i, b)) = ap (onRun exported u z m k) p ∙ rw (holds-same (st x rx msg) i, tail-same (st x rx msg) i, on w (st x rx msg) i b)
+  entry-same u z m k k′ on e unended p = ap (onRun exported u z m k) p
 
   pub log-same : (qs : List Call) (w : World) (s : St) → Inv s → Bytes (w .left) → AllWide qs
       → logOf exported h qs w (stored (s .ses)) (s .rx) (s .msg) ≡ logOf core h qs w (s .ses) (s .rx) (s .msg)
@@ -211,7 +212,7 @@ module _ (h : Host) (z : CodedHost h) where
   log-same [] w s x b v = refl
   log-same (q ∷ qs) w s x b v =
       let f : Fine (s .ses) (begin s q) = begin-fine s x q (v .0) in
-      rw (holds-same s x)
-      (entry-same (held s) (s .msg) _ _ (λ w′ s′ x′ b′. log-same qs w′ s′ x′ b′ (v .1))
+      rw (holds-same s x, tail-same s x)
+      (entry-same (held s) (s .ses .buf .tail) (s .msg) _ _ (λ w′ s′ x′ b′. log-same qs w′ s′ x′ b′ (v .1))
       (runCall exported h q w (stored (s .ses)) (s .rx) (s .msg)) (runCall core h q w (s .ses) (s .rx) (s .msg))
       (rw (start-image s x q f) (run-same h z (lentOf q) (lent-wide q (v .0)) (enough q w) (s .ses) (newCall w) (begin s q) f b)))

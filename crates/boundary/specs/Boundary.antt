@@ -81,6 +81,7 @@ exported =
       onWrote = λ rec rx msg lent. stepOf (crossWrote rec rx msg lent blank);
       onFault = λ rec rx msg lent e. stepOf (crossFault rec rx msg lent (endKind e) (endCode e) blank);
       holds = λ rec rx. heldBytes rx (cursor (wordOf rec 2) (wordOf rec 3));
+      tail = λ rec. wordOf rec 3;
     }
 
 abbrev pub openedBy : OpenCrossed → Opened (List ℕ)

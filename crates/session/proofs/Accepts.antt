@@ -9,8 +9,8 @@ use lib.ListN.{length, take, drop}
 use Rattle.protocol.specs.Bytes.{pick}
 use Rattle.protocol.specs.Calls.{Call}
 use Rattle.protocol.specs.Reader.{Report, accepted, broke}
-use Rattle.session.specs.Host.{Show, told, read, writeRx, writeLent, writeBytes, close, Step, Engine, Host, Ask, World, newCall, hasRead, hasWritten, hasClosed, counted, lentOf}
-use Rattle.session.specs.Host.{Run, over-with, unended, grantRead, grantWrite, grantClose, granted, run, enough, runCall, Entry, onRun, logOf}
+use Rattle.session.specs.Host.{Show, told, read, writeRx, writeLent, writeBytes, close, Step, Engine, Host, World, newCall, hasRead, hasWritten, hasClosed, counted, lentOf}
+use Rattle.session.specs.Host.{Run, over-with, unended, asking, grantRead, grantWrite, grantClose, granted, run, enough, runCall, Entry, onRun, logOf}
 
 abbrev pub AllAccepted : List Entry → Type 0
 AllAccepted [] = Unit {0}
@@ -28,9 +28,11 @@ module _ {X : Type 0} (E : Engine X) (h : Host) (accepts : (i : ℕ) → h .writ
 
     module _ (k : World → Step X → Run X) (on : (w : World) (s : Step X) → w .broken ≡ [] → Kept (k w s)) (w : World) (s : Step X)
         (e : w .broken ≡ []) where
-      read-kept : (a : Ask) (l : List ℕ) → Kept (grantRead E h lent k w s a l)
-      read-kept a [] = on (hasRead 0 a w) _ e
-      read-kept a (b ∷ bs) = on (hasRead (counted (h .count (w .reads)) (a .len) (length (w .left))) a w) _ e
+      read-kept : (at len : ℕ) (l : List ℕ) → Kept (grantRead E h lent k w s at len l)
+      read-kept at len [] = on (hasRead 0 (asking E h lent k w s at len 0) w) _ e
+      read-kept at len (b ∷ bs) =
+          let n : ℕ = counted (h .count (w .reads)) len (length (w .left)) in
+          on (hasRead n (asking E h lent k w s at len n) w) _ e
 
       write-kept : (b : List ℕ) → Kept (grantWrite E h lent k w s b (h .writes (w .writes)))
       write-kept b = rw (accepts (w .writes)) (on (hasWritten b w) _ e)
@@ -42,8 +44,7 @@ module _ {X : Type 0} (E : Engine X) (h : Host) (accepts : (i : ℕ) → h .writ
       granted-kept : (o : Show) → Kept (granted E h lent k w s o)
       granted-kept (told a) = e
       granted-kept (read at len) =
-          let a : Ask = record { rest = w .left; holds = E .holds (s .x) (s .rx); at = at; len = len; before = w .pieces } in
-          kept-unless (ltb 0 len && leb (at + len) (length (s .rx))) (grantRead E h lent k w s a (w .left)) (read-kept a (w .left))
+          kept-unless (ltb 0 len && leb (at + len) (length (s .rx))) (grantRead E h lent k w s at len (w .left)) (read-kept at len (w .left))
       granted-kept (writeRx at len) =
           let b : List ℕ = take len (drop at (s .rx)) in
           kept-unless (leb (at + len) (length (s .rx))) (grantWrite E h lent k w s b (h .writes (w .writes))) (write-kept b)
@@ -58,15 +59,15 @@ module _ {X : Type 0} (E : Engine X) (h : Host) (accepts : (i : ℕ) → h .writ
     run-kept zero w s e = tt
     run-kept (suc n) w s e = granted-kept (λ w′ s′. run E h lent n w′ s′) (λ w′ s′ e′. run-kept n w′ s′ e′) w s e (s .show)
 
-  entry-kept : (held msg : List ℕ) (k : World → X → List ℕ → List ℕ → List Entry) → ((w : World) (x : X) (rx msg : List ℕ) → AllAccepted (k w x rx msg))
-      → (o : Run X) → Kept o → AllAccepted (onRun E held msg k o)
-  entry-kept held msg k rest (over-with x rx msg′ a w) e = (e, rest w x rx msg′)
-  entry-kept held msg k rest unended e = tt
+  entry-kept : (held : List ℕ) (tail : ℕ) (msg : List ℕ) (k : World → X → List ℕ → List ℕ → List Entry) → ((w : World) (x : X) (rx msg : List ℕ) → AllAccepted (k w x rx msg))
+      → (o : Run X) → Kept o → AllAccepted (onRun E held tail msg k o)
+  entry-kept held tail msg k rest (over-with x rx msg′ a w) e = (e, rest w x rx msg′)
+  entry-kept held tail msg k rest unended e = tt
 
   pub log-accepts : (qs : List Call) (w : World) (x : X) (rx msg : List ℕ) → AllAccepted (logOf E h qs w x rx msg)
   unfolding logOf
   log-accepts [] w x rx msg = tt
   log-accepts (q ∷ qs) w x rx msg =
-      entry-kept (E .holds x rx) msg (λ w′ x′ rx′ msg′. logOf E h qs w′ x′ rx′ msg′) (λ w′ x′ rx′ msg′. log-accepts qs w′ x′ rx′ msg′)
+      entry-kept (E .holds x rx) (E .tail x) msg (λ w′ x′ rx′ msg′. logOf E h qs w′ x′ rx′ msg′) (λ w′ x′ rx′ msg′. log-accepts qs w′ x′ rx′ msg′)
       (runCall E h q w x rx msg)
       (run-kept (lentOf q) (enough q w) (newCall w) (E .start x rx msg q) refl)

@@ -30,7 +30,8 @@ use Rattle.session.specs.State.{St, st, Out, shut}
 use Rattle.session.specs.Steps.{readOn, told, closingOut, resumed}
 use Rattle.session.proofs.Buf.{good-pending}
 use Rattle.session.proofs.Run.{configIn, configOf, Heeds, fault-step, wrote-step, fault-told, run-told, reading-ok}
-use Rattle.session.proofs.Site.{once, Site, lent, reader, all, unread, Ok, wrote, Goes, later, started, Mid, mid-pending, mid-runs, mid-lends, LetIn, program-is}
+use Rattle.session.proofs.Site.{once, Site, lent, reader, rests, all, unread, Ok, wrote, Goes, later, started, Mid, mid-at, mid-pending, mid-runs, mid-lends, LetIn, program-is}
+use Rattle.session.proofs.Tail.{pump-tail}
 use Rattle.session.proofs.Text.{pump-text}
 use Rattle.session.proofs.Turns.{held, cont, restOf, Frame, frameOf, at, Kept, kept-eq, pumped-ok}
 
@@ -38,10 +39,10 @@ use Rattle.session.proofs.Turns.{held, cont, restOf, Frame, frameOf, at
 abbrev ended : Frame → Frame
 ended φ = record { capacity = φ .capacity; message = φ .message; lent = φ .lent; features = φ .features; ended = true }
 
--- What a fault of the request's writes comes to: of the piece b, behind the pieces xs that were accepted.
-abbrev pub Breaks : Site → ℕ → Request → Type 0
-Breaks c n rq =
-    (f i : ℕ) (xs : List (List ℕ)) (b : List ℕ) (rest : List (List ℕ)) (t : St) (e : End) → n ≤ f → Mid c t → all c ≡ xs ++ b ∷ rest
+-- What a fault of the request's writes comes to, tail at z: of the piece b, behind the pieces xs that were accepted.
+abbrev pub Breaks : Site → (z n : ℕ) → Request → Type 0
+Breaks c z n rq =
+    (f i : ℕ) (xs : List (List ℕ)) (b : List ℕ) (rest : List (List ℕ)) (t : St) (e : End) → n ≤ f → Mid c z t → all c ≡ xs ++ b ∷ rest
     → Goes c f i xs (once xs b e) (writeFault t rq (faultOf e))
 
 module _ (c : Site) (lets : LetIn c) where
@@ -50,11 +51,11 @@ module _ (c : Site) (lets : LetIn c) where
     config = rw stays
 
     heeds : (xs : List (List ℕ)) (i : ℕ) (bs : List Broken) → Accepted (all c) xs bs
-        → Heeds (reader c) (c .call) (unread c) (length (held (c .state))) (wrote c i xs bs)
-    heeds xs i bs a = record { asks = tt; pieces = a; closes = rw stays }
+        → Heeds (reader c) (c .call) (unread c) (length (held (c .state))) (c .state .ses .buf .tail) (wrote c i xs bs)
+    heeds xs i bs a = record { asks = tt; pieces = a; closes = rw stays; windows = tt }
 
     -- an answer ends the call
-    pub told-ok : (f i : ℕ) (xs : List (List ℕ)) (bs : List Broken) (t : St) (a : Answer) → 0 < f → Mid c t → Accepted (all c) xs bs
+    pub told-ok : (f i : ℕ) (xs : List (List ℕ)) (bs : List Broken) (t : St) (a : Answer) → 0 < f → Mid c (rests c (outcomeOf bs)) t → Accepted (all c) xs bs
         → onReport (reader c) (outcomeOf bs) (c .call) ≡ answer (paper (t .rx) (t .msg) a) → Goes c f i xs bs (told t a)
     unfolding plain
     told-ok f i xs bs t a l x p e =
@@ -65,12 +66,13 @@ module _ (c : Site) (lets : LetIn c) where
           config = ap (λ (ψ : Frame). configIn ψ (c .host .close)) (x .frame) ∙ config;
           same = rw (program-is c lets (outcomeOf bs) ∙ e, x .same);
           heeds = heeds xs i bs p;
+          ends = x .place;
           kept = rw (program-is c lets (outcomeOf bs) ∙ e) (x .msg);
         })
 
     -- the call reads a header
     pub header-ok : (f i : ℕ) (xs : List (List ℕ)) (bs : List Broken) (t : St) (x : Want) (lost : Bool) → c .state .ses .ended ≡ false → later c ≤ f
-        → Mid c t → Accepted (all c) xs bs
+        → Mid c (rests c (outcomeOf bs)) t → Accepted (all c) xs bs
         → ((msg y : List ℕ) → plain (c .state .ses .capacity) (onReport (reader c) (outcomeOf bs) (c .call)) y
         ≡ plain (c .state .ses .capacity) (restOf (c .state .ses .capacity) msg (Header x)) y)
         → ((rx msg : List ℕ) → paper rx msg (pick lost A.Closed (faultAnswer (faultOf (c .host .end)))) ≡ P.broken (endOf (c .host .end) (outcomeOf bs) (c .call)))
@@ -80,40 +82,41 @@ module _ (c : Site) (lets : LetIn c) where
         let φ : Frame = frameOf (started c .ses) in
         let o : Out = readOn t (Header x) lost in
         let G : List ℕ → Result = λ y. plain (c .state .ses .capacity) (program (reader c) (outcomeOf bs) (c .call)) (held t ++ y) in
-        reading-ok (c .host) (reader c) (c .call) (unread c) (length (held (c .state))) (c .state .msg) φ lost (outcomeOf bs) live refl config z f (wrote c i xs bs) (held t) o
+        reading-ok (c .host) (reader c) (c .call) (unread c) (length (held (c .state))) (c .state .ses .buf .tail) (c .state .msg) φ lost (outcomeOf bs) live refl config z f (wrote c i xs bs) (held t) o
         (omega arith) refl
         (ap (λ (y : List ℕ). y ++ c .world .left) (sym (m .same))) tt (heeds xs i bs p)
         (kept-eq φ lost G (at t (Header x)) o
         (λ y. ap (λ (k : Prog). plain (c .state .ses .capacity) k (held t ++ y)) (program-is c lets (outcomeOf bs)) ∙ e (t .msg) (held t ++ y)
         ∙ ap (λ (ψ : Frame). plain (ψ .capacity) (restOf (ψ .capacity) (t .msg) (Header x)) (held t ++ y)) (sym (m .frame)))
         (subst (λ (ψ : Frame). Kept ψ lost (at t (Header x)) o) (m .frame) (pumped-ok t (Header x) lost (m .good) tt)))
+        (rw (sym (m .place), ap (λ (ψ : Frame). ψ .capacity) (sym (m .frame))) (pump-tail 4 t (Header x) lost (m .good) tt))
         (λ y.
         rw (program-is c lets (outcomeOf bs), meets, sym (m .msg), ap (λ (ψ : Frame). ψ .capacity) (sym (m .frame)))
         (pump-text 4 t (Header x) lost (m .good) tt y))
 
     -- what a fault of a write comes to: an answer, or for a push the next header
-    pub plain-breaks : (rq : Request) → ((t : St) (e : Fault) → writeFault t rq e ≡ told t (faultAnswer e))
+    pub plain-breaks : (rq : Request) (z : ℕ) → ((e : End) → rests c (broke e) ≡ z) → ((t : St) (e : Fault) → writeFault t rq e ≡ told t (faultAnswer e))
         → ((e : End) → writeBroke (reader c) e (c .call) ≡ answer (P.broken e))
-        → Breaks c (later c) rq
-    plain-breaks rq faults breaks f i xs b rest t e l x split =
+        → Breaks c z (later c) rq
+    plain-breaks rq z rest-at faults breaks f i xs b rest t e l x split =
         rw (faults t (faultOf e))
-        (told-ok f i xs (once xs b e) t (faultAnswer (faultOf e)) (omega arith) x (rest, (split, refl))
+        (told-ok f i xs (once xs b e) t (faultAnswer (faultOf e)) (omega arith) (mid-at c t x (rest-at e)) (rest, (split, refl))
         (breaks e ∙ ap answer (sym (fault-told e (t .rx) (t .msg)))))
 
-    pub push-breaks : (rq : Request) → c .state .ses .ended ≡ false → ((t : St) (e : Fault) → writeFault t rq e ≡ pushFault t e)
+    pub push-breaks : (rq : Request) (z : ℕ) → ((e : End) → rests c (broke e) ≡ z) → c .state .ses .ended ≡ false → ((t : St) (e : Fault) → writeFault t rq e ≡ pushFault t e)
         → ((e : End) → writeBroke (reader c) e (c .call) ≡ pushBroke (reader c) e)
-        → endOf (c .host .end) (broke closed) (c .call) ≡ closed → Breaks c (later c) rq
+        → endOf (c .host .end) (broke closed) (c .call) ≡ closed → Breaks c z (later c) rq
     unfolding paper cont wants
-    push-breaks rq live faults breaks ends f i xs b rest t closed l x split =
+    push-breaks rq z rest-at live faults breaks ends f i xs b rest t closed l x split =
         rw (faults t (faultOf closed))
-        (header-ok f i xs (once xs b closed) t W.Nothing true live l x (rest, (split, refl))
+        (header-ok f i xs (once xs b closed) t W.Nothing true live l (mid-at c t x (rest-at closed)) (rest, (split, refl))
         (λ msg y. ap (λ (k : Prog). plain (c .state .ses .capacity) k y) (breaks closed)) (λ rx msg. ap P.broken (sym ends)) (ap meetsHeader (breaks closed)))
-    push-breaks rq live faults breaks ends f i xs b rest t (error k) l x split =
-        rw (faults t (faultOf (error k))) (told-ok f i xs (once xs b (error k)) t (A.Error k) (omega arith) x (rest, (split, refl)) (breaks (error k)))
+    push-breaks rq z rest-at live faults breaks ends f i xs b rest t (error k) l x split =
+        rw (faults t (faultOf (error k))) (told-ok f i xs (once xs b (error k)) t (A.Error k) (omega arith) (mid-at c t x (rest-at (error k))) (rest, (split, refl)) (breaks (error k)))
 
   -- quit: the close, after the write came to an error or not
   pub close-ok : (f i : ℕ) (xs : List (List ℕ)) (bs : List Broken) (failed : Bool) (code : ℕ) (t : St) → c .state .ses .ended ≡ false
-      → isQuit (c .call) ≡ true → 1 < f → Mid c t
+      → isQuit (c .call) ≡ true → 1 < f → Mid c (rests c (outcomeOf bs)) t
       → Accepted (all c) xs bs → onReport (reader c) (outcomeOf bs) (c .call) ≡ answer (pick failed (P.broken (error code)) (closing (c .host .close)))
       → Goes c f i xs bs (closingOut t failed code)
   unfolding run plain paper wroteAt faultAt
@@ -123,7 +126,7 @@ module _ (c : Site) (lets : LetIn c) where
       t₁ : St
       t₁ = st (S.at (t .ses) (t .ses .buf) (Closing failed code)) (t .rx) (t .msg)
 
-      x₁ : Mid c t₁
+      x₁ : Mid c (rests c (outcomeOf bs)) t₁
       x₁ = mid-pending c t (Closing failed code) x
 
       w₁ : World
@@ -141,7 +144,8 @@ module _ (c : Site) (lets : LetIn c) where
             still = refl;
             config = rw quits (ap (λ (ψ : Frame). configIn (ended ψ) (c .host .close)) (x .frame));
             same = rw (program-is c lets (outcomeOf bs) ∙ e ∙ ap answer (told failed), x .same);
-            heeds = record { asks = tt; pieces = p; closes = rw (quits, live) };
+            heeds = record { asks = tt; pieces = p; closes = rw (quits, live); windows = tt };
+            ends = x .place;
             kept = rw (program-is c lets (outcomeOf bs) ∙ e) (x .msg);
           })
         where
@@ -158,11 +162,11 @@ module _ (c : Site) (lets : LetIn c) where
           rw (fault-step t₁ (length (lent c)) (x₁ .good) (mid-runs c t₁ x₁ live) (mid-lends c t₁ x₁) (Closing failed code) refl refl (faultOf d))
           (over (faultAnswer (faultOf d)) (ap closing z ∙ sym (fault-told d (t .rx) (t .msg))))
 
-  -- what follows the call's writes
-  abbrev pub Follows : Request → Type 0
-  Follows rq = (f i : ℕ) (t : St) → later c ≤ f → Mid c t → Goes c f i (all c) [] (resumed t rq 0 (lent c))
+  -- what follows the call's writes, tail at z
+  abbrev pub Follows : ℕ → Request → Type 0
+  Follows z rq = (f i : ℕ) (t : St) → later c ≤ f → Mid c z t → Goes c f i (all c) [] (resumed t rq 0 (lent c))
 
-  pub done-follows : (rq : Request) → isQuit (c .call) ≡ false → ((t : St) → resumed t rq 0 (lent c) ≡ told t A.Done)
-      → written (reader c) (c .call) ≡ answer P.done → Follows rq
+  pub done-follows : (rq : Request) (z : ℕ) → rests c accepted ≡ z → isQuit (c .call) ≡ false → ((t : St) → resumed t rq 0 (lent c) ≡ told t A.Done)
+      → written (reader c) (c .call) ≡ answer P.done → Follows z rq
   unfolding paper
-  done-follows rq stays r e f i t l x = rw (r t) (told-ok stays f i (all c) [] t A.Done (omega arith) x refl e)
+  done-follows rq z rest-at stays r e f i t l x = rw (r t) (told-ok stays f i (all c) [] t A.Done (omega arith) (mid-at c t x rest-at) refl e)

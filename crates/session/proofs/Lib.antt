@@ -4,6 +4,7 @@ pub mod Misfit
 pub mod Buf
 pub mod Turns
 pub mod Text
+pub mod Tail
 pub mod Writes
 pub mod Run
 pub mod Site

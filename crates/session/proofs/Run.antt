@@ -30,7 +30,7 @@ use Rattle.session.specs.declared.Reply.the-variants as R
 use Rattle.session.specs.declared.Session.{Session}
 use Rattle.session.specs.Calls.{isIdle}
 use Rattle.session.specs.Core.{faultOf, stepOf, core}
-use Rattle.session.specs.Faithful.{AtNeed, Brought, AllAtNeeds, callPieces, Accepted, closesFor, textOf, keeping}
+use Rattle.session.specs.Faithful.{AtNeed, Brought, AllAtNeeds, callPieces, Accepted, closesFor, restsAt, tailAfter, windowAt, Placed, textOf, keeping}
 use Rattle.session.specs.Host.{Step, Host, Ask, World, outcomeOf, hasRead, counted, filling, windowed, lentOf, Run, over-with, unended, grantRead, granted, run}
 use Rattle.session.specs.Phases.{wants}
 use Rattle.session.specs.Reports.{reportRefusal, refusalAt, readIn, readAt, reportRead, wroteAt, reportWrote, faultAnswer, faultAt, reportFault}
@@ -39,6 +39,7 @@ use Rattle.session.specs.State as S
 use Rattle.session.specs.State.{St, st, Out, Good}
 use Rattle.session.proofs.Buf.{sound-of, good-at, good-pending}
 use Rattle.session.proofs.Misfit.{fits-misfit}
+use Rattle.session.proofs.Tail.{tailIn, Tails, stay-tail}
 use Rattle.session.proofs.Text.{textAt, textIn, text-short, Texts, stay-text}
 use Rattle.session.proofs.Turns.{held, cont, Frame, frameOf, Waits, KeptOut, Kept, kept-eq, stay-ok}
 
@@ -52,26 +53,28 @@ configIn φ z =
 abbrev pub configOf : Session → Report → Config
 configOf s z = configIn (frameOf s) z
 
--- What the world w has of a call is the plain reader's: each read asked at a need, the pieces accepted, the closes. The unread bytes
--- were v, n of them held.
-pub record Heeds (g : Config) (q : Call) (v : List ℕ) (n : ℕ) (w : World) : Type 0 where
+-- What the world w has of a call is the plain reader's: each read asked at a need, into the window that it should have, the pieces
+-- accepted, the closes. The unread bytes were v, n of them held, up to the place z.
+pub record Heeds (g : Config) (q : Call) (v : List ℕ) (n z : ℕ) (w : World) : Type 0 where
   pub asks : AllAtNeeds g (outcomeOf (w .broken)) q v (w .pieces) (w .asks)
   pub pieces : Accepted (callPieces g q n) (w .pieces) (w .broken)
   pub closes : w .closes ≡ closesFor (isQuit q) (g .setting .ended) (w .pieces)
+  pub windows : Placed (g .capacity) (restsAt g (outcomeOf (w .broken)) q n z) (w .asks)
 
 -- A call that is over: so is what it answers and what is left unread, and the next call finds a session as the plain reader is then. The
 -- message buffer was m.
-pub record Over (g : Config) (e : End) (q : Call) (v : List ℕ) (n : ℕ) (m : List ℕ) (t : St) (a : P.Answer) (w : World) : Type 0 where
+pub record Over (g : Config) (e : End) (q : Call) (v : List ℕ) (n z : ℕ) (m : List ℕ) (t : St) (a : P.Answer) (w : World) : Type 0 where
   pub good : Good t
   pub still : t .ses .pending ≡ Idle
   pub config : configOf (t .ses) (g .close) ≡ after g q
   pub same : plainCall g e (outcomeOf (w .broken)) q v ≡ record { answer = a; unread = held t ++ w .left }
-  pub heeds : Heeds g q v n w
+  pub heeds : Heeds g q v n z w
+  pub ends : t .ses .buf .tail ≡ tailAfter (restsAt g (outcomeOf (w .broken)) q n z) (w .asks)
   pub kept : t .msg ≡ keeping (textOf g (outcomeOf (w .broken)) q v) m
 
-abbrev pub Comes : Config → End → Call → List ℕ → ℕ → List ℕ → Run Session → Type 0
-Comes g e q v n m (over-with x rx msg a w) = Over g e q v n m (st x rx msg) a w
-Comes g e q v n m unended = ⊥
+abbrev pub Comes : Config → End → Call → List ℕ → (n z : ℕ) → List ℕ → Run Session → Type 0
+Comes g e q v n z m (over-with x rx msg a w) = Over g e q v n z m (st x rx msg) a w
+Comes g e q v n z m unended = ⊥
 
 -- ---- reports
 
@@ -116,7 +119,7 @@ pub length-filling : (f : ℕ → ℕ) (n : ℕ) → length (filling f n) ≡ n
 length-filling f zero = refl
 length-filling f (suc n) = ap suc (length-filling f n)
 
-module _ (h : Host) (g : Config) (q : Call) (v : List ℕ) (n : ℕ) (m : List ℕ) (φ : Frame) (lost : Bool) (r : Report) (runs : φ .ended ≡ false)
+module _ (h : Host) (g : Config) (q : Call) (v : List ℕ) (n z : ℕ) (m : List ℕ) (φ : Frame) (lost : Bool) (r : Report) (runs : φ .ended ≡ false)
     (size : φ .lent ≡ length (lentOf q)) (config : configIn φ (g .close) ≡ after g q)
     (end-told : (rx msg : List ℕ) → paper rx msg (pick lost A.Closed (faultAnswer (faultOf (h .end)))) ≡ P.broken (endOf (h .end) r q)) where
   -- the plain reader, given the bytes x
@@ -124,26 +127,31 @@ module _ (h : Host) (g : Config) (q : Call) (v : List ℕ) (n : ℕ) (m : List �
   G x = plain (g .capacity) (program g r q) x
 
   abbrev Ok : Run Session → Type 0
-  Ok o = Comes g (h .end) q v n m o
+  Ok o = Comes g (h .end) q v n z m o
+
+  -- tail in the world w, where no read is pending
+  abbrev tail : World → ℕ
+  tail w = tailAfter (restsAt g (outcomeOf (w .broken)) q n z) (w .asks)
 
   -- the message buffer in the end, given the bytes x
   abbrev M : List ℕ → List ℕ
   M x = keeping (textOf g r q x) m
 
   -- one step of the run, in the world w where the bytes u of v have come
-  module _ (w : World) (u : List ℕ) (t : St) (is : outcomeOf (w .broken) ≡ r) (come : v ≡ u ++ w .left) (brought : Brought (w .asks)) (heeds : Heeds g q v n w)
+  module _ (w : World) (u : List ℕ) (t : St) (is : outcomeOf (w .broken) ≡ r) (come : v ≡ u ++ w .left) (brought : Brought (w .asks)) (heeds : Heeds g q v n z w)
+      (place : t .ses .buf .tail ≡ tailIn (g .capacity) (t .ses .pending) (length (held t)) (tail w))
       (texts : (x : List ℕ) → M (u ++ x) ≡ textIn (g .capacity) (t .ses .pending) (t .msg) (held t ++ x))
       (k : World → Step Session → Run Session)
       (ends : (w′ : World) (t′ : St) (a : Answer) → k w′ (stepOf (telling t′ a)) ≡ over-with (t′ .ses) (t′ .rx) (t′ .msg)
       (paper (t′ .rx) (t′ .msg) a) w′)
-      (on : (w′ : World) (u′ : List ℕ) (o : Out) → length (w′ .left) < length (w .left) → outcomeOf (w′ .broken) ≡ r → v ≡ u′ ++ w′ .left → Brought (w′ .asks) → Heeds g q v n w′
-      → Kept φ lost (λ x. G (u′ ++ x)) o → Texts (g .capacity) (λ x. M (u′ ++ x)) o → Ok (k w′ (stepOf o))) where
+      (on : (w′ : World) (u′ : List ℕ) (o : Out) → length (w′ .left) < length (w .left) → outcomeOf (w′ .broken) ≡ r → v ≡ u′ ++ w′ .left → Brought (w′ .asks) → Heeds g q v n z w′
+      → Kept φ lost (λ x. G (u′ ++ x)) o → Tails (g .capacity) (tail w′) o → Texts (g .capacity) (λ x. M (u′ ++ x)) o → Ok (k w′ (stepOf o))) where
     in-the-end : keeping (textOf g (outcomeOf (w .broken)) q v) m ≡ textIn (g .capacity) (t .ses .pending) (t .msg) (held t ++ w .left)
     in-the-end = ap (λ (r′ : Report). keeping (textOf g r′ q v) m) is ∙ ap M come ∙ texts (w .left)
 
     module _ (i len : ℕ) (p : Phase) (x : Waits φ (λ y. G (u ++ y)) lost t i len p) where
-      abbrev ask : Ask
-      ask = record { rest = w .left; holds = held t; at = i; len = len; before = w .pieces }
+      abbrev ask : ℕ → Ask
+      ask j = record { rest = w .left; holds = held t; at = i; len = len; before = w .pieces; brought = j }
 
       abbrev step : Step Session
       step = stepOf (record { st = t; reply = R.Read i len })
@@ -157,8 +165,8 @@ module _ (h : Host) (g : Config) (q : Call) (v : List ℕ) (n : ℕ) (m : List �
           x .same y ∙ plain-short (t .ses .capacity) (wants (t .ses .capacity) p) (cont (t .ses .capacity) (t .msg) p) (held t ++ y) (x .fits)
           (omega (arith, x, length-append (held t) y))
 
-      at-need : AtNeed g (outcomeOf (w .broken)) q v (w .pieces) ask
-      at-need =
+      at-need : (j : ℕ) → AtNeed g (outcomeOf (w .broken)) q v (w .pieces) (ask j)
+      at-need j =
           record {
             come = u;
             n = wants (t .ses .capacity) p;
@@ -171,8 +179,12 @@ module _ (h : Host) (g : Config) (q : Call) (v : List ℕ) (n : ℕ) (m : List �
             behind = refl;
           }
 
-      read-heeds : (j : ℕ) → Heeds g q v n (hasRead j ask w)
-      read-heeds j = record { asks = (at-need, (brought, heeds .asks)); pieces = heeds .pieces; closes = heeds .closes }
+      window : i ≡ windowAt (g .capacity) (length (held t)) (tail w)
+      window = x .from ∙ place ∙ ap (λ (y : Pending). tailIn (g .capacity) y (length (held t)) (tail w)) (x .pend)
+
+      read-heeds : (j : ℕ) → Heeds g q v n z (hasRead j (ask j) w)
+      read-heeds j =
+          record { asks = (at-need j, (brought, heeds .asks)); pieces = heeds .pieces; closes = heeds .closes; windows = (window, heeds .windows) }
 
       -- the window, overwritten: y, and then any bytes
       module _ (f : ℕ → ℕ) (y : List ℕ) (l : length y ≤ len) where
@@ -198,16 +210,16 @@ module _ (h : Host) (g : Config) (q : Call) (v : List ℕ) (n : ℕ) (m : List �
 
       -- all has come: the end error
       stop-ok : length (w .left) ≡ 0 → (f : ℕ → ℕ)
-          → Ok (k (hasRead 0 ask w) (stepOf (reportFault (st (t .ses) (windowed f (t .rx) i len []) (t .msg)) (length (lentOf q)) (faultOf (h .end)))))
+          → Ok (k (hasRead 0 (ask 0) w) (stepOf (reportFault (st (t .ses) (windowed f (t .rx) i len []) (t .msg)) (length (lentOf q)) (faultOf (h .end)))))
       unfolding faultAt
       stop-ok none f =
           let rx : List ℕ = windowed f (t .rx) i len [] in
           let t₁ : St = st (t .ses) rx (t .msg) in
           let a : Answer = pick lost A.Closed (faultAnswer (faultOf (h .end))) in
           let e : End = endOf (h .end) r q in
-          subst (λ (o : Out). Ok (k (hasRead 0 ask w) (stepOf o)))
+          subst (λ (o : Out). Ok (k (hasRead 0 (ask 0) w) (stepOf o)))
           (sym (fault-step t₁ (length (lentOf q)) (window-good f [] (omega arith)) ended lends _ (x .pend) refl (faultOf (h .end))))
-          (subst Ok (sym (ends (hasRead 0 ask w) (st (S.at (t .ses) (t .ses .buf) Idle) rx (t .msg)) a))
+          (subst Ok (sym (ends (hasRead 0 (ask 0) w) (st (S.at (t .ses) (t .ses .buf) Idle) rx (t .msg)) a))
           (record {
             good = good-pending t₁ (window-good f [] (omega arith)) Idle;
             still = refl;
@@ -217,6 +229,7 @@ module _ (h : Host) (g : Config) (q : Call) (v : List ℕ) (n : ℕ) (m : List �
                 ∙ ap (λ (b : P.Answer). record { answer = b; unread = held t ++ w .left }) (sym (end-told rx (t .msg)))
                 ∙ ap (λ (y : List ℕ). record { answer = paper rx (t .msg) a; unread = y ++ w .left }) (sym (window-held f [] (omega arith)));
             heeds = read-heeds 0;
+            ends = omega (arith, x);
             kept =
                 let few : length (held t ++ w .left) < wants (g .capacity) p =
                 rw (sym capacity) (omega (arith, x, length-append (held t) (w .left), held-length (t .rx) (t .ses .buf) (sound-of t (x .good)))) in
@@ -227,20 +240,25 @@ module _ (h : Host) (g : Config) (q : Call) (v : List ℕ) (n : ℕ) (m : List �
 
       -- some of it came
       came-ok : (j : ℕ) → 1 ≤ j → j ≤ len → j ≤ length (w .left) → (f : ℕ → ℕ)
-          → Ok (k (hasRead j ask w) (stepOf (reportRead (st (t .ses) (windowed f (t .rx) i len (take j (w .left))) (t .msg)) (length (lentOf q)) j)))
+          → Ok (k (hasRead j (ask j) w) (stepOf (reportRead (st (t .ses) (windowed f (t .rx) i len (take j (w .left))) (t .msg)) (length (lentOf q)) j)))
       unfolding readAt
       came-ok j a b c f =
           let y : List ℕ = take j (w .left) in
           let e : length y ≡ j = length-take-le j (w .left) c in
           let t₁ : St = st (t .ses) (windowed f (t .rx) i len y) (t .msg) in
           let until : ℕ → Out = λ m. readIn t₁ p (t .ses .buf .head + wants (t .ses .capacity) p) lost m in
-          on (hasRead j ask w) (u ++ y) (reportRead t₁ (length (lentOf q)) j) (omega (arith, length-drop j (w .left))) is
+          on (hasRead j (ask j) w) (u ++ y) (reportRead t₁ (length (lentOf q)) j) (omega (arith, length-drop j (w .left))) is
           (come ∙ ap (λ (z : List ℕ). u ++ z) (sym (take-append-drop j (w .left))) ∙ sym (append-assoc u y (drop j (w .left)))) (omega arith) (read-heeds j)
           (subst (λ (o : Out). Kept φ lost (λ z. G (u ++ y ++ z)) o)
           (sym (read-step t₁ (length (lentOf q)) (window-good f y (omega arith)) ended lends _ (x .pend) refl j))
           (kept-eq φ lost (λ z. G (u ++ y ++ z)) (λ z. G (u ++ (y ++ z))) (until j) (λ z. ap G (append-assoc u y z))
           (subst (λ (m : ℕ). Kept φ lost (λ z. G (u ++ (y ++ z))) (until m)) e
           (stay-ok x y (filling f (len - length y)) (omega arith) (omega (arith, x, length-filling f (len - length y)))))))
+          (subst (Tails (g .capacity) (i + j))
+          (sym (read-step t₁ (length (lentOf q)) (window-good f y (omega arith)) ended lends _ (x .pend) refl j))
+          (subst (λ (n′ : ℕ). Tails n′ (i + j) (until j)) capacity
+          (subst (λ (j′ : ℕ). Tails (t .ses .capacity) (i + j′) (until j′)) e
+          (stay-tail x y (filling f (len - length y)) (omega arith) (omega (arith, x, length-filling f (len - length y)))))))
           (subst (Texts (g .capacity) (λ z. M (u ++ y ++ z)))
           (sym (read-step t₁ (length (lentOf q)) (window-good f y (omega arith)) ended lends _ (x .pend) refl j))
           (λ z.
@@ -249,7 +267,7 @@ module _ (h : Host) (g : Config) (q : Call) (v : List ℕ) (n : ℕ) (m : List �
           (subst (λ (i′ : ℕ). Texts (t .ses .capacity) (λ a′. textAt (t .ses .capacity) p (t .msg) (held t ++ (y ++ a′))) (until i′)) e
           (stay-text x y (filling f (len - length y)) (omega arith) (omega (arith, x, length-filling f (len - length y))))) z))
 
-      read-ok : (ls : List ℕ) → w .left ≡ ls → Ok (grantRead core h (lentOf q) k w step ask ls)
+      read-ok : (ls : List ℕ) → w .left ≡ ls → Ok (grantRead core h (lentOf q) k w step i len ls)
       read-ok [] e = stop-ok (ap length e) (h .junk (w .reads))
       read-ok (b ∷ bs) e =
           let some : 0 < length (w .left) = rw e (omega arith) in
@@ -265,6 +283,7 @@ module _ (h : Host) (g : Config) (q : Call) (v : List ℕ) (n : ℕ) (m : List �
           same = ap (λ (r′ : Report). plainCall g (h .end) r′ q v) is ∙ ap (λ (y : List ℕ). reply (endOf (h .end) r q) (G y)) come ∙ ap
               (reply (endOf (h .end) r q)) (x .same (w .left));
           heeds = heeds;
+          ends = place ∙ ap (λ (y : Pending). tailIn (g .capacity) y (length (held t)) (tail w)) (x .still);
           kept = sym (in-the-end ∙ ap (λ (z : Pending). textIn (g .capacity) z (t .msg) (held t ++ w .left)) (x .still));
         }
     reply-ok (R.Read i len) x =
@@ -276,10 +295,10 @@ module _ (h : Host) (g : Config) (q : Call) (v : List ℕ) (n : ℕ) (m : List �
     reply-ok (R.WriteBytes b) x = absurd x
     reply-ok R.Close x = absurd x
 
-  pub reading-ok : (f : ℕ) (w : World) (u : List ℕ) (o : Out) → length (w .left) + 1 < f → outcomeOf (w .broken) ≡ r → v ≡ u ++ w .left → Brought (w .asks) → Heeds g q v n w
-      → Kept φ lost (λ x. G (u ++ x)) o → Texts (g .capacity) (λ x. M (u ++ x)) o → Ok (run core h (lentOf q) f w (stepOf o))
+  pub reading-ok : (f : ℕ) (w : World) (u : List ℕ) (o : Out) → length (w .left) + 1 < f → outcomeOf (w .broken) ≡ r → v ≡ u ++ w .left → Brought (w .asks) → Heeds g q v n z w
+      → Kept φ lost (λ x. G (u ++ x)) o → Tails (g .capacity) (tail w) o → Texts (g .capacity) (λ x. M (u ++ x)) o → Ok (run core h (lentOf q) f w (stepOf o))
   unfolding run
-  reading-ok zero w u o l is come brought heeds x texts = absurd (omega arith)
-  reading-ok (suc f) w u o l is come brought heeds x texts =
-      reply-ok w u (o .st) is come brought heeds texts (λ w′ s′. run core h (lentOf q) f w′ s′) (λ w′ t a. run-told h (lentOf q) f w′ t a (omega arith))
-      (λ w′ u′ o′ m is′ come′ brought′ heeds′ y texts′. reading-ok f w′ u′ o′ (omega arith) is′ come′ brought′ heeds′ y texts′) (o .reply) x
+  reading-ok zero w u o l is come brought heeds x place texts = absurd (omega arith)
+  reading-ok (suc f) w u o l is come brought heeds x place texts =
+      reply-ok w u (o .st) is come brought heeds place texts (λ w′ s′. run core h (lentOf q) f w′ s′) (λ w′ t a. run-told h (lentOf q) f w′ t a (omega arith))
+      (λ w′ u′ o′ m is′ come′ brought′ heeds′ y place′ texts′. reading-ok f w′ u′ o′ (omega arith) is′ come′ brought′ heeds′ y place′ texts′) (o .reply) x

@@ -34,14 +34,15 @@ use Rattle.session.specs.Steps.{tidied, carried, pieceReply, sendPiece, 
 use Rattle.session.proofs.Buf.{sound-of}
 use Rattle.session.proofs.Follows.{Breaks, Follows}
 use Rattle.session.proofs.Run.{fault-step, wrote-step}
-use Rattle.session.proofs.Site.{once, Site, lent, free, all, Ok, wrote, Goes, later, started, Mid, mid-started, mid-pending, mid-tidied, mid-runs, mid-lends, LetIn, all-is}
+use Rattle.session.proofs.Site.{once, Site, lent, free, all, Ok, wrote, Goes, later, started, Mid, mid-at, mid-started, mid-pending, mid-tidied, mid-runs, mid-lends, LetIn, all-is}
+use Rattle.session.proofs.Tail.{tidied-tail}
 use Rattle.session.proofs.Turns.{held, Frame}
 use Rattle.session.proofs.Writes.{bytesIn, apart-pieces, Sent, pieces-sent, piece-at, drop-rest, wrote-last, wrote-more, placed-good, placed-held, placed-there, placed-inside, message-whole, message-apart, pieces-whole, pieces-apart, pieces-bare}
 
 module _ (c : Site) where
-  module _ (live : c .state .ses .ended ≡ false) (rq : Request) (n : ℕ) (breaks : Breaks c n rq) where
+  module _ (live : c .state .ses .ended ≡ false) (rq : Request) (z n : ℕ) (breaks : Breaks c z n rq) where
     -- the host is handed a piece b
-    write-ok : (f i : ℕ) (xs rest : List (List ℕ)) (b : List ℕ) (t : St) (o : Reply) (from k : ℕ) → n ≤ f → Mid c t
+    write-ok : (f i : ℕ) (xs rest : List (List ℕ)) (b : List ℕ) (t : St) (o : Reply) (from k : ℕ) → n ≤ f → Mid c z t
         → t .ses .pending ≡ Writing rq from k → all c ≡ xs ++ b ∷ rest
         → Goes c f (i + 1) (xs ++ b ∷ []) [] (wroteOn t rq from k (lent c))
         → (r : Report)
@@ -59,7 +60,7 @@ module _ (c : Site) where
     -- A message that carries `part`, from `from` on; ys are the call's pieces up to its last.
     module _ (from : ℕ) (part : List ℕ) (fits : from + length part ≤ length (lent c)) (there : take (length part) (drop from (lent c)) ≡ part)
         (carries : carried rq from (lent c) ≡ part) (ys todo : List (List ℕ)) (upto : all c ≡ ys ++ todo)
-        (on : (f i : ℕ) (t : St) → n ≤ f → Mid c t → Goes c f i ys [] (resumed t rq from (lent c))) where
+        (on : (f i : ℕ) (t : St) → n ≤ f → Mid c z t → Goes c f i ys [] (resumed t rq from (lent c))) where
       granted-piece : (k : World → Step Session → Run Session) (w′ : World) (s′ : Step Session) (p : Piece)
           → granted core (c .host) (lent c) k w′ s′ (showOf (s′ .rx) (s′ .msg) (pieceReply from (length part) p))
           ≡ grantWrite core (c .host) (lent c) k w′ s′ (bytesIn part p) (c .host .writes (w′ .writes))
@@ -72,15 +73,15 @@ module _ (c : Site) where
       granted-piece k w′ s′ P.End = refl
 
       -- the k-th piece p goes out, and ps are behind it
-      piece-ok : (f i k : ℕ) (xs : List (List ℕ)) (t : St) (p : Piece) (ps : List Piece) → n ≤ f → Mid c t
+      piece-ok : (f i k : ℕ) (xs : List (List ℕ)) (t : St) (p : Piece) (ps : List Piece) → n ≤ f → Mid c z t
           → drop k (pieceList rq (length part)) ≡ p ∷ ps
           → ys ≡ xs ++ bytesIn part p ∷ map (bytesIn part) ps
-          → ((t′ : St) → Mid c t′ → Goes c f (i + 1) (xs ++ bytesIn part p ∷ []) [] (wroteOn t′ rq from (k + 1) (lent c)))
+          → ((t′ : St) → Mid c z t′ → Goes c f (i + 1) (xs ++ bytesIn part p ∷ []) [] (wroteOn t′ rq from (k + 1) (lent c)))
           → Goes c (suc f) i xs [] (out (sendPiece (t .ses) rq from (length part) k) (t .rx) (t .msg))
       unfolding run
       piece-ok f i k xs t p ps l x at-k e next =
           let t₁ : St = st (at (t .ses) (t .ses .buf) (Writing rq from (k + 1))) (t .rx) (t .msg) in
-          let x₁ : Mid c t₁ = mid-pending c t (Writing rq from (k + 1)) x in
+          let x₁ : Mid c z t₁ = mid-pending c t (Writing rq from (k + 1)) x in
           let o : Reply = pieceReply from (length part) p in
           rw (piece-at rq (length part) k (p ∷ ps) at-k)
           (subst (Ok c)
@@ -90,7 +91,7 @@ module _ (c : Site) where
           (next t₁ x₁) (c .host .writes i)))
 
       -- a piece was accepted, and ps are still to go
-      pieces-ok : (ps : List Piece) (m f i k : ℕ) (xs : List (List ℕ)) (t : St) → Sent m ps → n + m ≤ f → 0 < k → Mid c t
+      pieces-ok : (ps : List Piece) (m f i k : ℕ) (xs : List (List ℕ)) (t : St) → Sent m ps → n + m ≤ f → 0 < k → Mid c z t
           → drop k (pieceList rq (length part)) ≡ ps
           → ys ≡ xs ++ map (bytesIn part) ps → Goes c f i xs [] (wroteOn t rq from k (lent c))
       pieces-ok [] m f i k xs t z l p x at-k e =
@@ -105,7 +106,7 @@ module _ (c : Site) where
           (e ∙ sym (append-snoc xs (bytesIn part b) (map (bytesIn part) ps)))))
 
       -- the message goes out in pieces, from the first
-      pub apart-ok : (f i : ℕ) (xs : List (List ℕ)) (t : St) → n + 5 ≤ f → Mid c t → ys ≡ xs ++ apart published (meant rq part)
+      pub apart-ok : (f i : ℕ) (xs : List (List ℕ)) (t : St) → n + 5 ≤ f → Mid c z t → ys ≡ xs ++ apart published (meant rq part)
           → Goes c f i xs [] (out (sendPiece (t .ses) rq from (length part) 0) (t .rx) (t .msg))
       unfolding pieceList
       apart-ok zero i xs t l x e = absurd (omega arith)
@@ -118,31 +119,32 @@ module _ (c : Site) where
           (e₁ ∙ sym (append-snoc xs (bytesIn part p) (map (bytesIn part) ps))))
 
       -- .. or whole, from the free end of the buffer
-      whole-ok : (f i : ℕ) (xs : List (List ℕ)) (t : St) (m : List ℕ) → n < f → Mid c t → length (held t) + length m ≤ t .ses .capacity
+      whole-ok : {y : ℕ} (f i : ℕ) (xs : List (List ℕ)) (t : St) (m : List ℕ) → length (held (c .state)) ≡ z → n < f → Mid c y t → length (held t) + length m ≤ t .ses .capacity
           → ys ≡ xs ++ m ∷ []
           → Goes c f i xs [] (record {
             st = st (at (t .ses) ((tidied t) .ses .buf) (Writing rq from 0)) (over ((tidied t) .rx) ((tidied t) .ses .buf .tail) m) (t .msg);
             reply = R.WriteRx ((tidied t) .ses .buf .tail) (length m);
           })
       unfolding run wroteOn
-      whole-ok zero i xs t m l x fit e = absurd (omega arith)
-      whole-ok (suc f) i xs t m l x fit e =
+      whole-ok zero i xs t m front l x fit e = absurd (omega arith)
+      whole-ok (suc f) i xs t m front l x fit e =
           let t₁ : St = st (at (t .ses) ((tidied t) .ses .buf) (Writing rq from 0)) (over ((tidied t) .rx) ((tidied t) .ses .buf .tail) m) (t .msg) in
-          let x₁ : Mid c t₁ = record {
+          let x₁ : Mid c z t₁ = record {
             good = placed-good t (x .good) m fit (Writing rq from 0);
             frame = x .frame;
             same = placed-held t (x .good) m fit ∙ x .same;
             msg = x .msg;
+            place = tidied-tail t (x .good) ∙ ap length (x .same) ∙ front;
           } in
           rw (le-leb _ _ (placed-inside t (x .good) m fit), placed-there t (x .good) m fit)
           (write-ok f i xs todo m t₁ (R.WriteRx ((tidied t) .ses .buf .tail) (length m)) from 0 (omega arith) x₁ refl
           (upto ∙ ap (λ (y : List (List ℕ)). y ++ todo) e ∙ append-assoc xs (m ∷ []) todo)
           (rw (sym e) (on f (i + 1) t₁ (omega arith) x₁)) (c .host .writes i))
 
-      pub message-ok : (f i : ℕ) (xs : List (List ℕ)) (t : St) → n + 5 ≤ f → Mid c t
+      pub message-ok : {y : ℕ} (f i : ℕ) (xs : List (List ℕ)) (t : St) → length (held (c .state)) ≡ z → n + 5 ≤ f → Mid c y t
           → ys ≡ xs ++ pieces published (free c) (meant rq part)
           → Goes c f i xs [] (beside (messageOut (t .ses) (t .rx) rq from part) (t .msg))
-      message-ok f i xs t l x e = go (decLe (length m) (free c))
+      message-ok f i xs t front l x e = go (decLe (length m) (free c))
         where
           m : List ℕ
           m = bytesOfRequest published (meant rq part)
@@ -158,28 +160,28 @@ module _ (c : Site) where
               let within = held-length (t .rx) (t .ses .buf) (sound-of t (x .good)) in
               let room : length (held t) + length m ≤ t .ses .capacity = omega (arith, x .good, size, count) in
               rw (message-whole t (x .good) rq from part room)
-              (whole-ok f i xs t m (omega arith) x room (e ∙ ap (λ (y : List (List ℕ)). xs ++ y) (pieces-whole (free c) (meant rq part) fit)))
+              (whole-ok f i xs t m front (omega arith) x room (e ∙ ap (λ (y : List (List ℕ)). xs ++ y) (pieces-whole (free c) (meant rq part) fit)))
           go (no wide) =
               let full : t .ses .capacity < length (held t) + length m = omega (arith, size, count) in
               rw (message-apart t (x .good) rq from part full)
-              (apart-ok _ i xs (tidied t) l (mid-tidied c t x)
+              (apart-ok _ i xs (tidied t) l (mid-at c (tidied t) (mid-tidied c t x) (sym front))
               (e ∙ ap (λ (y : List (List ℕ)). xs ++ y) (pieces-apart (free c) (meant rq part) (omega arith))))
 
   -- a call of one message: with a path, or a header only
-  module _ (lets : LetIn c) (good : Good (c .state)) (live : c .state .ses .ended ≡ false) (rq : Request) (breaks : Breaks c (later c) rq)
-      (on : Follows c lets rq) where
-    pub path-ok : (f : ℕ) → messages (c .call) ≡ meant rq (lent c) ∷ [] → carried rq 0 (lent c) ≡ lent c → later c + 5 ≤ f
+  module _ (lets : LetIn c) (good : Good (c .state)) (live : c .state .ses .ended ≡ false) (rq : Request) (z : ℕ) (breaks : Breaks c z (later c) rq)
+      (on : Follows c lets z rq) where
+    pub path-ok : (f : ℕ) → length (held (c .state)) ≡ z → messages (c .call) ≡ meant rq (lent c) ∷ [] → carried rq 0 (lent c) ≡ lent c → later c + 5 ≤ f
         → Goes c f (c .world .writes) [] [] (beside (messageOut (started c .ses) (c .state .rx) rq 0 (lent c)) (c .state .msg))
-    path-ok f one carries l =
-        message-ok live rq (later c) breaks 0 (lent c) (omega arith) (take-length (lent c)) carries (all c) [] (sym (append-nil (all c))) on f
-        (c .world .writes) [] (started c) l (mid-started c good)
+    path-ok f front one carries l =
+        message-ok live rq z (later c) breaks 0 (lent c) (omega arith) (take-length (lent c)) carries (all c) [] (sym (append-nil (all c))) on f
+        (c .world .writes) [] (started c) front l (mid-started c good)
         (all-is c lets ∙ ap (piecesOf published (free c)) one ∙ append-nil (pieces published (free c) (meant rq (lent c))))
 
-    pub bare-ok : (f : ℕ) → messages (c .call) ≡ meant rq [] ∷ [] → messageOf published (meant rq []) .parts ≡ [] → carried rq 0 (lent c) ≡ []
+    pub bare-ok : (f : ℕ) → c .state .ses .buf .tail ≡ z → messages (c .call) ≡ meant rq [] ∷ [] → messageOf published (meant rq []) .parts ≡ [] → carried rq 0 (lent c) ≡ []
         → later c + 5 ≤ f
         → Goes c f (c .world .writes) [] [] (out (sendPiece (started c .ses) rq 0 0 0) (c .state .rx) (c .state .msg))
-    bare-ok f one bare carries l =
-        apart-ok live rq (later c) breaks 0 [] (omega arith) refl carries (all c) [] (sym (append-nil (all c))) on f (c .world .writes) []
-        (started c) l (mid-started c good)
+    bare-ok f still one bare carries l =
+        apart-ok live rq z (later c) breaks 0 [] (omega arith) refl carries (all c) [] (sym (append-nil (all c))) on f (c .world .writes) []
+        (started c) l (mid-at c (started c) (mid-started c good) (sym still))
         (all-is c lets ∙ ap (piecesOf published (free c)) one ∙ append-nil (pieces published (free c) (meant rq []))
         ∙ pieces-bare (free c) (meant rq []) bare)

@@ -4,9 +4,10 @@ use Prim.Native.Nat.{ℕ, _+_, _-_}
 use mathlib.Core.Bool.{false}
 use mathlib.Core.List.{List, [], _∷_, _++_}
 use mathlib.Core.Option.{Option, none}
-use mathlib.Core.Path.{_≡_, refl, ap, _∙_}
+use mathlib.Core.Path.{_≡_, refl, sym, ap, _∙_, subst}
 use lib.ListN.{length}
 use Rattle.protocol.specs.Answers.{Answer, End}
+use Rattle.protocol.specs.Bytes.{pick}
 use Rattle.protocol.specs.Calls.{Call, refusal, messages}
 use Rattle.protocol.specs.Ids.{published}
 use Rattle.protocol.specs.Reader.{Config, Report, unless, onReport, program}
@@ -14,12 +15,13 @@ use Rattle.session.specs.declared.Pending.{Pending}
 use Rattle.session.specs.declared.Session.{Session}
 use Rattle.session.specs.Calls.{settingOf}
 use Rattle.session.specs.Core.{stepOf, core}
-use Rattle.session.specs.Faithful.{piecesOf, unlessPieces, callPieces}
+use Rattle.session.specs.Faithful.{piecesOf, unlessPieces, callPieces, compacts, unlessMoved, restsAt}
 use Rattle.session.specs.Host.{Host, Broken, World, lentOf, Run, run}
 use Rattle.session.specs.State.{St, st, Out, at, begun, Good}
 use Rattle.session.specs.Steps.{tidied}
 use Rattle.session.proofs.Buf.{good-pending, good-tidied, held-tidied}
 use Rattle.session.proofs.Run.{configOf, Comes}
+use Rattle.session.proofs.Tail.{tidied-tail}
 use Rattle.session.proofs.Turns.{held, Frame, frameOf}
 
 -- the piece b came to the fault e, behind the pieces xs
@@ -50,8 +52,12 @@ module _ (c : Site) where
   abbrev pub unread : List ℕ
   unread = held (c .state) ++ c .world .left
 
+  -- tail once the call has written, if r is reported of that
+  abbrev pub rests : Report → ℕ
+  rests r = restsAt reader r (c .call) (length (held (c .state))) (c .state .ses .buf .tail)
+
   abbrev pub Ok : Run Session → Type 0
-  Ok o = Comes reader (c .host .end) (c .call) unread (length (held (c .state))) (c .state .msg) o
+  Ok o = Comes reader (c .host .end) (c .call) unread (length (held (c .state))) (c .state .ses .buf .tail) (c .state .msg) o
 
   -- the world after i writes in all, where xs of the call's pieces were accepted, and bs came to a fault
   abbrev pub wrote : ℕ → List (List ℕ) → List Broken → World
@@ -70,32 +76,45 @@ module _ (c : Site) where
   abbrev pub started : St
   started = st (begun (c .state .ses) (length lent)) (c .state .rx) (c .state .msg)
 
-  -- the call has begun, and nothing has been read
-  pub record Mid (t : St) : Type 0 where
+  -- the call has begun, and nothing has been read; tail is at z
+  pub record Mid (z : ℕ) (t : St) : Type 0 where
     pub good : Good t
     pub frame : frameOf (t .ses) ≡ frameOf (started .ses)
     pub same : held t ≡ held (c .state)
     pub msg : t .msg ≡ c .state .msg
+    pub place : t .ses .buf .tail ≡ z
 
-  pub mid-started : Good (c .state) → Mid started
+  pub mid-started : Good (c .state) → Mid (c .state .ses .buf .tail) started
   mid-started g =
       record {
         good = record { order = g .order; inside = g .inside; rx = g .rx; least = g .least; aside = g .aside; msg = g .msg };
         frame = refl;
         same = refl;
         msg = refl;
+        place = refl;
       }
 
-  pub mid-pending : (t : St) (p : Pending) → Mid t → Mid (st (at (t .ses) (t .ses .buf) p) (t .rx) (t .msg))
-  mid-pending t p x = record { good = good-pending t (x .good) p; frame = x .frame; same = x .same; msg = x .msg }
+  -- tail at z, under another name
+  pub mid-at : {z y : ℕ} (t : St) → Mid z t → y ≡ z → Mid y t
+  mid-at t x e = subst (λ (y : ℕ). Mid y t) (sym e) x
 
-  pub mid-tidied : (t : St) → Mid t → Mid (tidied t)
-  mid-tidied t x = record { good = good-tidied t (x .good); frame = x .frame; same = held-tidied t (x .good) ∙ x .same; msg = x .msg }
+  pub mid-pending : {z : ℕ} (t : St) (p : Pending) → Mid z t → Mid z (st (at (t .ses) (t .ses .buf) p) (t .rx) (t .msg))
+  mid-pending t p x = record { good = good-pending t (x .good) p; frame = x .frame; same = x .same; msg = x .msg; place = x .place }
 
-  pub mid-runs : (t : St) → Mid t → c .state .ses .ended ≡ false → t .ses .ended ≡ false
+  pub mid-tidied : {z : ℕ} (t : St) → Mid z t → Mid (length (held (c .state))) (tidied t)
+  mid-tidied t x =
+      record {
+        good = good-tidied t (x .good);
+        frame = x .frame;
+        same = held-tidied t (x .good) ∙ x .same;
+        msg = x .msg;
+        place = tidied-tail t (x .good) ∙ ap length (x .same);
+      }
+
+  pub mid-runs : {z : ℕ} (t : St) → Mid z t → c .state .ses .ended ≡ false → t .ses .ended ≡ false
   mid-runs t x e = ap (λ (ψ : Frame). ψ .ended) (x .frame) ∙ e
 
-  pub mid-lends : (t : St) → Mid t → t .ses .lent ≡ length lent
+  pub mid-lends : {z : ℕ} (t : St) → Mid z t → t .ses .lent ≡ length lent
   mid-lends t x = ap (λ (ψ : Frame). ψ .lent) (x .frame)
 
   -- ---- a call that is let in
@@ -105,6 +124,10 @@ module _ (c : Site) where
 
   pub program-is : LetIn → (r : Report) → program reader r (c .call) ≡ onReport reader r (c .call)
   program-is lets r = ap (λ (o : Option Answer). unless o (onReport reader r (c .call))) lets
+
+  pub rests-is : LetIn → (r : Report) → rests r ≡ pick (compacts r (c .call)) (length (held (c .state))) (c .state .ses .buf .tail)
+  rests-is lets r =
+      ap (λ (o : Option Answer). unlessMoved o (compacts r (c .call)) (length (held (c .state))) (c .state .ses .buf .tail)) lets
 
   pub all-is : LetIn → all ≡ piecesOf published free (messages (c .call))
   all-is lets = ap (λ (o : Option Answer). unlessPieces o (piecesOf published free (messages (c .call)))) lets

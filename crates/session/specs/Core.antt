@@ -83,6 +83,7 @@ core =
       onWrote = λ s rx msg lent. stepOf (reportWrote (st s rx msg) lent);
       onFault = λ s rx msg lent e. stepOf (reportFault (st s rx msg) (length lent) (faultOf e));
       holds = λ s rx. heldBytes rx (s .buf);
+      tail = λ s. s .buf .tail;
     }
 
 -- the features 1 to 7, as a list says them

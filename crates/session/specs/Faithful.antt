@@ -5,14 +5,14 @@ use mathlib.Core.Bool.{Bool, true, false, _&&_}
 use mathlib.Core.List.{List, [], _∷_, _++_}
 use mathlib.Core.Option.{Option, none, some}
 use mathlib.Core.Path.{_≡_}
-use lib.Dec.{leb}
+use lib.Dec.{leb, ltb}
 use lib.ListN.{length, take, drop}
 use Rattle.protocol.specs.Answers.{Answer, End}
 use Rattle.protocol.specs.Bytes.{pick, same}
-use Rattle.protocol.specs.Calls.{Call, messages, refusal}
+use Rattle.protocol.specs.Calls.{Call, call, nextEntry, nextChunk, messages, refusal}
 use Rattle.protocol.specs.Ids.{Dialect, FAIL}
-use Rattle.protocol.specs.Messages.{Request, pieces}
-use Rattle.protocol.specs.Reader.{Prog, answer, need, skip, Config, Report, short, plain, program, after, plainCall, isQuit}
+use Rattle.protocol.specs.Messages.{Request, ask, rcv2, send, snd2, chunk, done, quit, pieces}
+use Rattle.protocol.specs.Reader.{Prog, answer, need, skip, Config, Report, accepted, broke, short, plain, program, after, plainCall, isQuit}
 use Rattle.protocol.specs.Records.{idAt, argAt, headerSize}
 use Rattle.session.specs.Host.{Ask, Broken, outcomeOf, Entry}
 
@@ -67,6 +67,44 @@ closesFor true false ps = ps ∷ []
 closesFor true true ps = []
 closesFor false ended ps = []
 
+-- ---- where the windows lie
+
+-- Does a call compact before it reads? "After compaction" a message goes out; "DONE and QUIT are header only, no compaction. `recv_next`
+-- compacts first, `send_done` before its reply"; empty data writes nothing.
+abbrev pub compacts : Report → Call → Bool
+compacts r (call (ask i p)) = true
+compacts r (call (rcv2 p f)) = true
+compacts r (call (send p m)) = true
+compacts r (call (snd2 p m f)) = true
+compacts r (call (chunk [])) = false
+compacts r (call (chunk (b ∷ x))) = true
+compacts accepted (call (done t)) = true
+compacts (broke e) (call (done t)) = false
+compacts r (call quit) = false
+compacts r (nextEntry v) = false
+compacts r nextChunk = true
+
+-- tail then, if `held` bytes were held before it and tail was at `tail`: compaction moves held bytes to the front
+abbrev pub unlessMoved : Option Answer → Bool → (held tail : ℕ) → ℕ
+unlessMoved (some a) b held tail = tail
+unlessMoved none b held tail = pick b held tail
+
+abbrev pub restsAt : Config → Report → Call → (held tail : ℕ) → ℕ
+restsAt g r q held tail = unlessMoved (refusal (g .setting) q) (compacts r q) held tail
+
+-- "head and tail move forward with each take and fill": tail after the reads asked, the last first
+abbrev pub tailAfter : ℕ → List Ask → ℕ
+tailAfter t [] = t
+tailAfter t (a ∷ more) = a .at + a .brought
+
+-- "compacting only when tail meets the end": a window begins at tail, or there behind the held bytes
+abbrev pub windowAt : (capacity held tail : ℕ) → ℕ
+windowAt c held tail = pick (ltb tail c) tail held
+
+abbrev pub Placed : ℕ → ℕ → List Ask → Type 0
+Placed c t [] = Unit {0}
+Placed c t (a ∷ more) = (a .at ≡ windowAt c (length (a .holds)) (tailAfter t more)) × Placed c t more
+
 -- ---- the message buffer
 
 -- "The message buffer's first m bytes become the text once those have come, even if the rest never does": the text of a FAIL at the front
@@ -97,6 +135,8 @@ pub record AsReader (g : Config) (e : End) (q : Call) (v : List ℕ) (x : Entry)
   pub asks : AllAtNeeds g (outcomeOf (x .broken)) q v (x .pieces) (x .asks)
   pub pieces : Accepted (callPieces g q (length (x .held))) (x .pieces) (x .broken)
   pub closes : x .closes ≡ closesFor (isQuit q) (g .setting .ended) (x .pieces)
+  pub windows : Placed (g .capacity) (restsAt g (outcomeOf (x .broken)) q (length (x .held)) (x .tail)) (x .asks)
+  pub ends : x .ends ≡ tailAfter (restsAt g (outcomeOf (x .broken)) q (length (x .held)) (x .tail)) (x .asks)
   pub kept : x .kept ≡ keeping (textOf g (outcomeOf (x .broken)) q v) (x .msg)
 
 -- an entry for each call, each as the plain reader has it

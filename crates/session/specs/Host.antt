@@ -32,13 +32,14 @@ pub record Step (X : Type 0) : Type 0 where
   pub show : Show
 
 -- A session, seen from outside. It is lent both buffers at each step, and a call's path or data (of a read or a fault only its length
--- counts). `holds`: the bytes that it has received and not consumed.
+-- counts). `holds`: the bytes that it has received and not consumed; `tail`: where the free end of the receive buffer begins, behind them.
 pub record Engine (X : Type 0) : Type 0 where
   pub start : X → List ℕ → List ℕ → Call → Step X
   pub onRead : X → List ℕ → List ℕ → (lent : List ℕ) → (count : ℕ) → Step X
   pub onWrote : X → List ℕ → List ℕ → (lent : List ℕ) → Step X
   pub onFault : X → List ℕ → List ℕ → (lent : List ℕ) → End → Step X
   pub holds : X → List ℕ → List ℕ
+  pub tail : X → ℕ
 
 -- The host's choices: the count of its i-th read; the bytes that this read leaves in the rest of its window; what it reports of its
 -- i-th write; of the close; the error that follows the incoming bytes and persists.
@@ -49,13 +50,14 @@ pub record Host : Type 0 where
   pub close : Report
   pub end : End
 
--- a read that was asked: the bytes still to come, those held, the window, the pieces of this call written before
+-- a read that was asked: the bytes still to come, those held, the window, the pieces of this call written before; how many bytes it brought
 pub record Ask : Type 0 where
   pub rest : List ℕ
   pub holds : List ℕ
   pub at : ℕ
   pub len : ℕ
   pub before : List (List ℕ)
+  pub brought : ℕ
 
 -- a write that came to a fault: the piece offered, the fault, the pieces of this call accepted before
 pub record Broken : Type 0 where
@@ -129,11 +131,16 @@ pub data Run (X : Type 0) : Type 0 where
   unended : Run X
 
 module _ {X : Type 0} (E : Engine X) (h : Host) (lent : List ℕ) (k : World → Step X → Run X) where
-  abbrev pub grantRead : World → Step X → Ask → List ℕ → Run X
-  grantRead w s a [] = k (hasRead 0 a w) (E .onFault (s .x) (windowed (h .junk (w .reads)) (s .rx) (a .at) (a .len) []) (s .msg) lent (h .end))
-  grantRead w s a (b ∷ bs) =
-      let n = counted (h .count (w .reads)) (a .len) (length (w .left)) in
-      k (hasRead n a w) (E .onRead (s .x) (windowed (h .junk (w .reads)) (s .rx) (a .at) (a .len) (take n (w .left))) (s .msg) lent n)
+  -- the read asked, where it brings n bytes
+  abbrev pub asking : World → Step X → (at len n : ℕ) → Ask
+  asking w s at len n = record { rest = w .left; holds = E .holds (s .x) (s .rx); at = at; len = len; before = w .pieces; brought = n }
+
+  abbrev pub grantRead : World → Step X → (at len : ℕ) → List ℕ → Run X
+  grantRead w s at len [] =
+      k (hasRead 0 (asking w s at len 0) w) (E .onFault (s .x) (windowed (h .junk (w .reads)) (s .rx) at len []) (s .msg) lent (h .end))
+  grantRead w s at len (b ∷ bs) =
+      let n = counted (h .count (w .reads)) len (length (w .left)) in
+      k (hasRead n (asking w s at len n) w) (E .onRead (s .x) (windowed (h .junk (w .reads)) (s .rx) at len (take n (w .left))) (s .msg) lent n)
 
   abbrev pub grantWrite : World → Step X → List ℕ → Report → Run X
   grantWrite w s b accepted = k (hasWritten b w) (E .onWrote (s .x) (s .rx) (s .msg) lent)
@@ -146,9 +153,7 @@ module _ {X : Type 0} (E : Engine X) (h : Host) (lent : List ℕ) (k : World →
   abbrev pub granted : World → Step X → Show → Run X
   granted w s (told a) = over-with (s .x) (s .rx) (s .msg) a w
   granted w s (read at len) =
-      pick (ltb 0 len && leb (at + len) (length (s .rx)))
-      (grantRead w s (record { rest = w .left; holds = E .holds (s .x) (s .rx); at = at; len = len; before = w .pieces }) (w .left))
-      unended
+      pick (ltb 0 len && leb (at + len) (length (s .rx))) (grantRead w s at len (w .left)) unended
   granted w s (writeRx at len) =
       pick (leb (at + len) (length (s .rx))) (grantWrite w s (take len (drop at (s .rx))) (h .writes (w .writes))) unended
   granted w s (writeLent at len) =
@@ -170,24 +175,26 @@ runCall E h q w x rx msg = run E h (lentOf q) (enough q w) (newCall w) (E .start
 
 -- what is logged of a call
 pub record Entry : Type 0 where
-  -- the bytes held and the message buffer when it began
+  -- the bytes held, tail and the message buffer when it began
   pub held : List ℕ
+  pub tail : ℕ
   pub msg : List ℕ
   pub answer : Answer
   pub asks : List Ask
   pub pieces : List (List ℕ)
   pub broken : List Broken
   pub closes : List (List (List ℕ))
-  -- the bytes held and still to come, and the message buffer, when it was over
+  -- the bytes held and still to come, tail and the message buffer when it was over
   pub unread : List ℕ
+  pub ends : ℕ
   pub kept : List ℕ
 
-abbrev pub onRun : {X : Type 0} → Engine X → (held msg : List ℕ) → (World → X → List ℕ → List ℕ → List Entry) → Run X → List Entry
-onRun E held msg k (over-with x rx msg′ a w) =
-    record { held = held; msg = msg; answer = a; asks = w .asks; pieces = w .pieces; broken = w .broken; closes = w .closes; unread = E .holds x rx ++ w .left; kept = msg′ } ∷ k w x rx msg′
-onRun E held msg k unended = []
+abbrev pub onRun : {X : Type 0} → Engine X → (held : List ℕ) → (tail : ℕ) → (msg : List ℕ) → (World → X → List ℕ → List ℕ → List Entry) → Run X → List Entry
+onRun E held tail msg k (over-with x rx msg′ a w) =
+    record { held = held; tail = tail; msg = msg; answer = a; asks = w .asks; pieces = w .pieces; broken = w .broken; closes = w .closes; unread = E .holds x rx ++ w .left; ends = E .tail x; kept = msg′ } ∷ k w x rx msg′
+onRun E held tail msg k unended = []
 
 -- a list of calls; the log ends early where a call does not end
 unfoldable pub logOf : {X : Type 0} → Engine X → Host → List Call → World → X → List ℕ → List ℕ → List Entry
 logOf E h [] w x rx msg = []
-logOf E h (q ∷ qs) w x rx msg = onRun E (E .holds x rx) msg (λ w′ x′ rx′ msg′. logOf E h qs w′ x′ rx′ msg′) (runCall E h q w x rx msg)
+logOf E h (q ∷ qs) w x rx msg = onRun E (E .holds x rx) (E .tail x) msg (λ w′ x′ rx′ msg′. logOf E h qs w′ x′ rx′ msg′) (runCall E h q w x rx msg)
