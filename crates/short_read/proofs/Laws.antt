@@ -1,32 +1,35 @@
 -- A read that leaves its need short: when it is one, by the record's numbers. Assumes nothing.
-use mathlib.Core.Bool.{Bool, true, false, _&&_, and-eq-true-iff, true≢false}
+use mathlib.Core.Bool.{Bool, true, false, not, _&&_, true≢false}
 use mathlib.Core.List.{List, [], _∷_, _++_, map}
-use mathlib.Core.Option.{Option}
+use mathlib.Core.Option.{Option, none, some}
 use mathlib.Core.Path.{_≡_, refl, sym, ap, subst, _∙_}
 use Prim.Native.Nat.{ℕ, zero, suc, _+_, _-_, _≤_, _<_}
 use native.Mathlib.Omega.{arith}
-use borrow.Author.Tests.{lt-ltb, eq-eqb, ne-eqb, eqb-true, eqb-false, ltb-true, leb-true, leb-false}
+use borrow.Author.Tests.{eq-eqb, ne-eqb}
 use lib.Dec.{eqb, ltb, leb}
 use lib.ListN.{length, getD, List·getD-append}
 use lib.Seq.{getD-append-add}
 use Rattle.protocol.specs.Bytes.{pick}
 use Rattle.boundary.specs.Crossing.{staysAt}
 use Rattle.record.specs.Fields.{isOne, low, requests, phases, pendings, pendingOf, sessionOf}
-use Rattle.record.specs.Record.{size, wordOf, loaded}
-use Rattle.record_load.proofs.Held.{holds, held, unheld, held-size, held-known, held-of}
+use Rattle.record.specs.Record.{wordOf, loaded}
+use Rattle.record_load.proofs.Held.{holds, held, unheld, held-size}
 use Rattle.request.specs.declared.Request.{Request}
+use Rattle.session.proofs.Misfit.{fits-misfit}
 use Rattle.session.specs.Calls.{misfit, isIdle}
 use Rattle.session.specs.Reports.{reportRefusal}
 use Rattle.session.specs.declared.Pending.{Pending}
 use Rattle.session.specs.declared.Pending.the-variants.{Idle, Reading, Writing, Closing}
 use Rattle.session.specs.declared.Phase.{Phase}
 use Rattle.session.specs.declared.Session.{Session}
-use Rattle.short_read.specs.Short.{tailAt, awaitsRead, shortTail, shortIn}
+use Rattle.standing.specs.Standing.{numberIn, standing, Stands}
+use Rattle.standing.proofs.Laws.{number-in, fits-of, held-of}
+use Rattle.short_read.specs.Short.{tailAt, shortTail, shortIn}
 
 -- ---- the pending step of a state: 13 and up are reading
 
 module _ (w : ℕ → ℕ) (s : Session) (k : ℕ) where
-  abbrev pub short : Bool
+  abbrev short : Bool
   short = ltb 0 k && leb k (s .capacity - s .buf .tail) && ltb (s .buf .tail + k) (w 9) && ltb (s .buf .tail + k) (s .capacity)
 
   -- states 0 to 12, and 13 to 30
@@ -46,7 +49,7 @@ module _ (w : ℕ → ℕ) (s : Session) (k : ℕ) where
   others-wait zero = refl
   others-wait (suc i) = none-stays (requests w) i
 
-  pub waiting : w 7 < 13 → staysAt (pendingOf w) s k ≡ false
+  waiting : w 7 < 13 → staysAt (pendingOf w) s k ≡ false
   waiting h = ap (λ (p : Pending). staysAt p s k) (List·getD-append others readers Idle (w 7) h) ∙ others-wait (w 7)
 
   abbrev Reads : Pending → Type 0
@@ -57,7 +60,7 @@ module _ (w : ℕ → ℕ) (s : Session) (k : ℕ) where
   all-read (p ∷ ps) zero h = (refl, refl)
   all-read (p ∷ ps) (suc j) h = all-read ps j (omega arith)
 
-  pub reading : 13 ≤ w 7 → w 7 < 31 → Reads (pendingOf w)
+  reading : 13 ≤ w 7 → w 7 < 31 → Reads (pendingOf w)
   reading h l =
       let e : 13 + (w 7 - 13) ≡ w 7 = omega arith in
       let j : w 7 - 13 < 18 = omega arith in
@@ -81,7 +84,7 @@ module _ (s : Session) (x m n k : ℕ) where
   refused : eqb (reportRefusal s x m n) 0 ≡ false → 0 ≡ shortTail s x m n k
   refused e = rw e
 
-  pub short-misfit : misfit s x m ≡ true → 0 ≡ shortTail s x m n k
+  short-misfit : misfit s x m ≡ true → 0 ≡ shortTail s x m n k
   unfolding reportRefusal
   short-misfit e = refused (rw e (ne-eqb 3 0 (omega arith)))
 
@@ -90,12 +93,12 @@ module _ (s : Session) (x m n k : ℕ) where
   short-ended e = refused (rw e (ended-out (misfit s x m) (isIdle (s .pending)) (eqb n (s .lent))))
 
   module _ (fit : misfit s x m ≡ false) where
-    pub short-lent : eqb n (s .lent) ≡ false → 0 ≡ shortTail s x m n k
+    short-lent : eqb n (s .lent) ≡ false → 0 ≡ shortTail s x m n k
     unfolding reportRefusal
     short-lent e = refused (rw (fit, e) (lent-out (isIdle (s .pending)) (s .ended)))
 
     -- neither of them: what the pending step says
-    pub short-at : isIdle (s .pending) ≡ false → s .ended ≡ false → eqb n (s .lent) ≡ true → (b : Bool) → staysAt (s .pending) s k ≡ b
+    short-at : isIdle (s .pending) ≡ false → s .ended ≡ false → eqb n (s .lent) ≡ true → (b : Bool) → staysAt (s .pending) s k ≡ b
         → pick b (s .buf .tail + k) 0 ≡ shortTail s x m n k
     unfolding reportRefusal
     short-at i e l b y = simp (fit, i, e, l, y)
@@ -107,41 +110,55 @@ module _ (s : Session) (x m n k : ℕ) where
       go true = rw y
       go false = refl
 
-pub at-words : {c t u c′ t′ u′ : ℕ} (k : ℕ) → c ≡ c′ → t ≡ t′ → u ≡ u′ → tailAt c t u k ≡ tailAt c′ t′ u′ k
+at-words : {c t u c′ t′ u′ : ℕ} (k : ℕ) → c ≡ c′ → t ≡ t′ → u ≡ u′ → tailAt c t u k ≡ tailAt c′ t′ u′ k
 at-words k p q r = rw (p, q, r)
 
--- ---- a record that awaits a read, and one that does not
+-- no session that stands
+module _ (x m n k : ℕ) where
+  pub unfit : (o : Option Session) → standing o x m ≡ false → 0 ≡ shortIn o x m n k
+  unfit none e = refl
+  unfit (some s) e = go (misfit s x m) (s .ended) refl refl e
+    where
+      go : (b c : Bool) → misfit s x m ≡ b → s .ended ≡ c → not b && not c ≡ false → 0 ≡ shortTail s x m n k
+      go true c f g h = short-misfit s x m n k f
+      go false true f g h = short-ended s x m n k g
+      go false false f g h = absurd (true≢false h)
 
-module _ (rec : List ℕ) where
+-- ---- a record's numbers
+
+module _ (rec : List ℕ) (x m n k : ℕ) where
   abbrev w : ℕ → ℕ
   w = wordOf rec
 
-  pub awaits : awaitsRead rec ≡ true → (holds rec ≡ true) × ((w 6 ≡ 0) × (13 ≤ w 7) × (w 7 < 31))
-  awaits e =
-      let (e₅, f) = and-eq-true-iff (eqb (length rec) size && ltb (w 5) 128 && eqb (w 6) 0 && leb 13 (w 7) && ltb (w 7) 31) (ltb (w 8) 2) .0 e in
-      let (e₄, d) = and-eq-true-iff (eqb (length rec) size && ltb (w 5) 128 && eqb (w 6) 0 && leb 13 (w 7)) (ltb (w 7) 31) .0 e₅ in
-      let (e₃, c) = and-eq-true-iff (eqb (length rec) size && ltb (w 5) 128 && eqb (w 6) 0) (leb 13 (w 7)) .0 e₄ in
-      let (e₂, b) = and-eq-true-iff (eqb (length rec) size && ltb (w 5) 128) (eqb (w 6) 0) .0 e₃ in
-      let (l, a) = and-eq-true-iff (eqb (length rec) size) (ltb (w 5) 128) .0 e₂ in
-      let z : w 6 ≡ 0 = eqb-true (w 6) 0 b in
-      let k : w 7 < 31 = ltb-true (w 7) 31 d in
-      (held-of rec (eqb-true (length rec) size l) (ltb-true (w 5) 128 a) (omega arith) k (ltb-true (w 8) 2 f), (z, leb-true 13 (w 7) c, k))
+  at : (o : Option Session) (t : ℕ) → o ≡ loaded rec → t ≡ shortIn o x m n k → t ≡ shortIn (loaded rec) x m n k
+  at o t f h = h ∙ ap (λ (q : Option Session). shortIn q x m n k) f
 
-  -- a session that does not: it has ended, or awaits something else
-  apart : awaitsRead rec ≡ false → (w 5 < 128) × (w 6 < 2) × (w 7 < 31) × (w 8 < 2) → length rec ≡ size → (x m n k : ℕ) (b c : Bool)
-      → eqb (w 6) 0 ≡ b → leb 13 (w 7) ≡ c → 0 ≡ shortTail (sessionOf w) x m n k
+  -- another step than a read is pending
+  pub awaits-other : numberIn rec 7 < 13 → 0 ≡ shortIn (loaded rec) x m n k
   unfolding sessionOf
-  apart e h l x m n k false c f g = let i = eqb-false (w 6) 0 f in short-ended (sessionOf w) x m n k (eq-eqb (w 6) 1 (omega arith))
-  apart e h l x m n k true false f g = short-waiting (sessionOf w) x m n k (waiting w (sessionOf w) k (leb-false 13 (w 7) g))
-  apart e (a, b, c, d) l x m n k true true f g =
-      absurd (true≢false (rw (eq-eqb (length rec) size l, lt-ltb (w 5) 128 a, f, g, lt-ltb (w 7) 31 c, lt-ltb (w 8) 2 d) at e))
-
-  pub awaits-none : (x m n k : ℕ) → awaitsRead rec ≡ false → 0 ≡ shortIn (loaded rec) x m n k
-  awaits-none x m n k e = go (holds rec) refl
+  awaits-other l = go (holds rec) refl
     where
-      at : (o : Option Session) → o ≡ loaded rec → 0 ≡ shortIn o x m n k → 0 ≡ shortIn (loaded rec) x m n k
-      at o f h = h ∙ ap (λ (q : Option Session). shortIn q x m n k) f
-
       go : (b : Bool) → holds rec ≡ b → 0 ≡ shortIn (loaded rec) x m n k
-      go false h = at _ (unheld rec h) refl
-      go true h = at _ (held rec h) (apart e (held-known rec h) (held-size rec h) x m n k (eqb (w 6) 0) (leb 13 (w 7)) refl refl)
+      go false h = at _ 0 (unheld rec h) refl
+      go true h = at _ 0 (held rec h) (short-waiting (sessionOf w) x m n k (waiting w (sessionOf w) k (subst (λ (i : ℕ). i < 13) (number-in rec 7 (held-size rec h)) l)))
+
+  module _ (h : Stands rec x m) where
+    fit : misfit (sessionOf w) x m ≡ false
+    fit = fits-misfit (sessionOf w) x m (fits-of rec x m h)
+
+    eq : (i : ℕ) → numberIn rec i ≡ w i
+    eq i = number-in rec i (h .sized)
+
+    pub lent-other : (n ≡ numberIn rec 4 → ⊥) → 0 ≡ shortIn (loaded rec) x m n k
+    unfolding sessionOf
+    lent-other d = at _ 0 (held rec (held-of rec x m h)) (short-lent (sessionOf w) x m n k fit (ne-eqb n (w 4) (λ e. d (e ∙ sym (eq 4)))))
+
+    -- a read is
+    pub awaits-read : 13 ≤ numberIn rec 7 → n ≡ numberIn rec 4 → (c t u : ℕ) → c ≡ numberIn rec 0 → t ≡ numberIn rec 3 → u ≡ numberIn rec 9
+        → tailAt c t u k ≡ shortIn (loaded rec) x m n k
+    unfolding sessionOf
+    awaits-read l e c t u p q r =
+        let (i, y) = reading w (sessionOf w) k (omega (arith, eq 7)) (omega (arith, eq 7, h .state)) in
+        at _ _ (held rec (held-of rec x m h))
+        (at-words k (p ∙ eq 0) (q ∙ eq 3) (r ∙ eq 9)
+        ∙ short-at (sessionOf w) x m n k fit i (ne-eqb (w 6) 1 (λ z. omega (arith, eq 6, h .ended))) (eq-eqb n (w 4) (e ∙ eq 4)) (short w (sessionOf w) k) y)

@@ -2,24 +2,16 @@
 -- Assumes nothing.
 use Prim.Native.Nat.{ℕ, _+_, _-_}
 use mathlib.Core.Bool.{Bool, _&&_}
-use mathlib.Core.List.{List}
 use mathlib.Core.Option.{Option, none, some}
 use lib.Dec.{eqb, ltb, leb}
-use lib.ListN.{length}
 use Rattle.protocol.specs.Bytes.{pick}
 use Rattle.boundary.specs.Crossing.{staysAt}
-use Rattle.record.specs.Record.{size, wordOf}
 use Rattle.session.specs.Reports.{reportRefusal}
 use Rattle.session.specs.declared.Session.{Session}
 
 -- n more bytes that leave the need short, which is met at until, and room behind them; 0 for any other n
 abbrev pub tailAt : (capacity tail until n : ℕ) → ℕ
 tailAt capacity tail until n = pick (ltb 0 n && leb n (capacity - tail) && ltb (tail + n) until && ltb (tail + n) capacity) (tail + n) 0
-
--- whether a record holds a session that awaits a read
-abbrev pub awaitsRead : List ℕ → Bool
-awaitsRead rec =
-    eqb (length rec) size && ltb (wordOf rec 5) 128 && eqb (wordOf rec 6) 0 && leb 13 (wordOf rec 7) && ltb (wordOf rec 7) 31 && ltb (wordOf rec 8) 2
 
 -- whether a read of k bytes leaves its need short, with buffers of x and m bytes and n lent
 abbrev pub leavesShort : Session → (x m n k : ℕ) → Bool

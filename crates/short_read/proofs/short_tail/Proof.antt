@@ -1,30 +1,48 @@
 -- `short_read::short_tail` meets its contract. Assumes nothing.
-use mathlib.Core.Option.{Option}
-use mathlib.Core.Path.{sym, ap, _∙_}
+use mathlib.Core.Path.{sym, _∙_}
+use native.Mathlib.Omega.{arith}
 use borrow.Author.Needs.{needs}
 use denote.Ref.{now}
-use Rattle.record_load.proofs.Held.{held, held-size}
-use Rattle.session.specs.declared.Session.{Session}
-use Rattle.short_read.specs.Short.{shortIn}
-use Rattle.short_read.proofs.Laws.{awaits, awaits-none}
+use Rattle.record.specs.Record.{loaded}
+use Rattle.standing.proofs.Laws.{stands-of}
+use Rattle.short_read.proofs.Laws.{unfit, awaits-other, lent-other, awaits-read}
 use Rattle.short_read.proofs.short_tail.Statement.{statement}
 use Rattle.short_read.proofs.short_tail.Tie as tie
 
-asks : tie.Need-tail-in-requires
-asks c κs =
-    let rec = now (c .before .before .before .args .rec) in
-    let (h, (z, l, k)) = awaits rec (sym (c .before .is-reading .ensures) ∙ c .if1 .taken) in
-    (held-size rec h, z, l, k)
+other-step : tie.Need-returns
+other-step c = let a = c .before .before .before .args in awaits-other (now (a .rec)) (a .rx) (a .msg) (a .lent) (a .n) (omega arith)
 
-session : tie.Need-returns
-session c =
-    let a = c .before .before .before .before .args in
-    c .tail-in .ensures
-    ∙ ap (λ (o : Option Session). shortIn o (a .rx) (a .msg) (a .lent) (a .n))
-    (held (now (a .rec)) (awaits (now (a .rec)) (sym (c .before .before .is-reading .ensures) ∙ c .before .if1 .taken) .0))
+shorts : tie.Need-returns-2
+shorts c =
+    let a = c .before .before .before .before .before .before .before .before .before .before .before .args in
+    let h = stands-of (now (a .rec)) (a .rx) (a .msg) (sym (c .before .before .before .before .before .before .before .stands .ensures) ∙ c .before .before .before .before .before .before .if2 .taken) in
+    c .tail-at .ensures
+    ∙ awaits-read (now (a .rec)) (a .rx) (a .msg) (a .lent) (a .n) h (omega arith) (c .before .before .before .before .if3 .taken ∙ c .before .before .before .before .before .number2 .ensures) _ _ _
+    (c .before .before .before .number3 .ensures) (c .before .before .number4 .ensures) (c .before .number5 .ensures)
 
-other : tie.Need-returns-2
-other c = let a = c .before .before .before .args in awaits-none (now (a .rec)) (a .rx) (a .msg) (a .lent) (a .n) (sym (c .before .is-reading .ensures) ∙ c .if1 .left)
+lends : tie.Need-returns-3
+lends c =
+    let a = c .before .before .before .before .before .before .before .args in
+    lent-other (now (a .rec)) (a .rx) (a .msg) (a .lent) (a .n) (stands-of (now (a .rec)) (a .rx) (a .msg) (sym (c .before .before .before .stands .ensures) ∙ c .before .before .if2 .taken))
+    (λ e. c .if3 .left (e ∙ sym (c .before .number2 .ensures)))
+
+other-record : tie.Need-returns-4
+other-record c =
+    let a = c .before .before .before .before .before .args in
+    unfit (a .rx) (a .msg) (a .lent) (a .n) (loaded (now (a .rec))) (sym (c .before .stands .ensures) ∙ c .if2 .left)
 
 pub short-tail-spec : {M : Type 1} → statement M
-short-tail-spec = tie.close (tie.spec (λ c κs. search needs) asks session other)
+short-tail-spec =
+    tie.close
+    (tie.spec
+    (λ c κs. search needs)
+    other-step
+    (λ c κs. search needs)
+    (λ c κs. search needs)
+    (λ c κs. search needs)
+    (λ c κs. search needs)
+    (λ c κs. search needs)
+    (λ c κs. search needs)
+    shorts
+    lends
+    other-record)
