@@ -69,11 +69,10 @@ module _ (w : ℕ → ℕ) (s : Session) (k : ℕ) where
 
 -- ---- refusals
 
-ended-out : (f i l : Bool) → eqb (pick f 3 (pick i (pick true 6 5) (pick l (pick true 6 0) 3))) 0 ≡ false
-ended-out true i l = ne-eqb 3 0 (omega arith)
-ended-out false true l = ne-eqb 6 0 (omega arith)
-ended-out false false true = ne-eqb 6 0 (omega arith)
-ended-out false false false = ne-eqb 3 0 (omega arith)
+ended-out : (i l : Bool) → eqb (pick i (pick true 6 5) (pick l (pick true 6 0) 3)) 0 ≡ false
+ended-out true l = ne-eqb 6 0 (omega arith)
+ended-out false true = ne-eqb 6 0 (omega arith)
+ended-out false false = ne-eqb 3 0 (omega arith)
 
 lent-out : (i e : Bool) → eqb (pick i (pick e 6 5) 3) 0 ≡ false
 lent-out true true = ne-eqb 6 0 (omega arith)
@@ -88,11 +87,11 @@ module _ (s : Session) (x m n k : ℕ) where
   unfolding reportRefusal
   short-misfit e = refused (rw e (ne-eqb 3 0 (omega arith)))
 
-  short-ended : s .ended ≡ true → 0 ≡ shortTail s x m n k
-  unfolding reportRefusal misfit
-  short-ended e = refused (rw e (ended-out (misfit s x m) (isIdle (s .pending)) (eqb n (s .lent))))
-
   module _ (fit : misfit s x m ≡ false) where
+    short-ended : s .ended ≡ true → 0 ≡ shortTail s x m n k
+    unfolding reportRefusal
+    short-ended e = refused (rw (fit, e) (ended-out (isIdle (s .pending)) (eqb n (s .lent))))
+
     short-lent : eqb n (s .lent) ≡ false → 0 ≡ shortTail s x m n k
     unfolding reportRefusal
     short-lent e = refused (rw (fit, e) (lent-out (isIdle (s .pending)) (s .ended)))
@@ -121,7 +120,7 @@ module _ (x m n k : ℕ) where
     where
       go : (b c : Bool) → misfit s x m ≡ b → s .ended ≡ c → not b && not c ≡ false → 0 ≡ shortTail s x m n k
       go true c f g h = short-misfit s x m n k f
-      go false true f g h = short-ended s x m n k g
+      go false true f g h = short-ended s x m n k f g
       go false false f g h = absurd (true≢false h)
 
 -- ---- a record's numbers
