@@ -8,10 +8,10 @@ use Rattle.replay.proofs.fill.Statement.{statement}
 use Rattle.replay.proofs.fill.Tie as tie
 
 abbrev Inv-loop : tie.InvT-loop
-Inv-loop out₀ from to b i₀ out i = length out ≡ length out₀
+Inv-loop out₀ b i₀ out i = length out ≡ length out₀
 
 abbrev μ-loop : tie.MeasureT-loop
-μ-loop out₀ from to b i₀ out i = to - i
+μ-loop out₀ b i₀ out i = length out₀ - i
 
 pub fill-spec : {M : Type 1} → statement M
 fill-spec =

@@ -1,14 +1,14 @@
--- `replay::unpack` is safe and ends: what was unpacked stays within out. Assumes nothing.
+-- `recording::unpack` is safe and ends: what was unpacked stays within out, and the field within the record. Assumes nothing.
 use mathlib.Core.Path.{_≡_, refl}
 use Prim.Native.Nat.{_≤_, _-_}
 use native.Mathlib.Omega.{arith}
 use borrow.Author.Needs.{needs}
 use lib.ListN.{length}
-use Rattle.replay.proofs.unpack.Statement.{statement}
-use Rattle.replay.proofs.unpack.Tie as tie
+use Rattle.recording.proofs.unpack.Statement.{statement}
+use Rattle.recording.proofs.unpack.Tie as tie
 
 abbrev Inv-loop : tie.InvT-loop
-Inv-loop s at out₀ parts end₀ len₀ i₀ out end len i = (length out ≡ length out₀) × (len ≤ length out)
+Inv-loop s at out₀ parts end₀ len₀ i₀ out end len i = (length out ≡ length out₀) × (len ≤ length out) × (at ≤ end) × (end ≤ length s)
 
 abbrev μ-loop : tie.MeasureT-loop
 μ-loop s at out₀ parts end₀ len₀ i₀ out end len i = parts - i
@@ -21,7 +21,7 @@ unpack-spec =
     μ-loop
     (λ c κs. search needs)
     (λ c κs. search needs)
-    (λ c. (refl, omega arith))
+    (λ c. (refl, omega arith, omega arith, omega arith))
     (λ c κs. search needs)
     (λ c. search needs)
     (λ c. search needs)

@@ -1,11 +1,11 @@
--- `replay::decode` is safe and ends: the count stays within out. Assumes nothing.
+-- `recording::decode` is safe and ends: the count stays within out. Assumes nothing.
 use mathlib.Core.Path.{_≡_, refl}
 use Prim.Native.Nat.{_≤_, _-_, _+_}
 use native.Mathlib.Omega.{arith}
 use borrow.Author.Needs.{needs}
 use lib.ListN.{length, length-set}
-use Rattle.replay.proofs.decode.Statement.{statement}
-use Rattle.replay.proofs.decode.Tie as tie
+use Rattle.recording.proofs.decode.Statement.{statement}
+use Rattle.recording.proofs.decode.Tie as tie
 
 abbrev Inv-loop : tie.InvT-loop
 Inv-loop text out₀ n₀ i₀ out n i = (length out ≡ length out₀) × (n ≤ length out) × (i ≤ length text + 1)
