@@ -2,12 +2,12 @@
 ghost use mathlib.Core.Path.{_≡_};
 ghost use Rattle.boundary.specs.Crossing.{crossed, crossStart, crossWrote, crossFault};
 ghost use Rattle.anew.specs.Anew.{readAnew};
+use faults::fault;
 use numbered::begin;
 use numbered::fault_of;
 use put_back::give_back;
 use record_load::Loaded;
 use record_load::load;
-use reports::fault;
 use reports::read;
 use reports::wrote;
 

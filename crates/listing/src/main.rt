@@ -110,7 +110,7 @@ fn settle(step: Stepped, rx: &mut [u8], msg: &mut [u8]) -> Heard
         Reply::Told(_) => answer_of(step),
         Reply::Read { at: _, len: _ } => {
             let session = step.session;
-            answer_of(reports::fault(session, rx, msg, 0, Fault::Error(0)))
+            answer_of(faults::fault(session, rx, msg, 0, Fault::Error(0)))
         }
         Reply::WriteRx { at: _, len: _ } => answer_of(step),
         Reply::WriteLent { at: _, len: _ } => answer_of(step),

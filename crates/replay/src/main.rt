@@ -201,7 +201,7 @@ fn fault(kind: u8, code: u32) -> Fault {
 
 fn report(s: Session, rx: &mut [u8], msg: &mut [u8], r: Record, lent: &[u8]) -> Stepped {
     if 0 < r.report {
-        return reports::fault(s, rx, msg, lent.len(), fault(r.report, r.code));
+        return faults::fault(s, rx, msg, lent.len(), fault(r.report, r.code));
     }
     if r.kind == 3 {
         return reports::read(s, rx, msg, lent.len(), r.len);

@@ -1,29 +1,18 @@
--- A report that is not refused by 3, 6 or 5: the session fits its buffers, and the pending step says what follows. And the cases of a read in the window. Assumes nothing.
+-- The cases of a read in the window. Assumes nothing.
 use Prim.Native.Nat.{ℕ, _+_, _-_, _≤_, _<_}
 use mathlib.Core.Bool.{Bool}
 use mathlib.Core.Path.{_≡_, ap, _∙_}
 use native.Mathlib.Omega.{arith}
 use borrow.Author.Tests.{lt-ltb, le-ltb, ne-eqb}
-use Rattle.phases.proofs.Turns.{case}
 use Rattle.recv_buf.proofs.Laws.{filled-in}
 use Rattle.recv_buf.specs.RecvBuf.{cursor, filled}
 use Rattle.recv_buf.specs.declared.RecvBuf.{RecvBuf}
-use Rattle.sender.proofs.Refused.{unless-in, let-in}
-use Rattle.session.specs.Calls.{unless}
-use Rattle.session.specs.Reports.{reportRefusal, refusalAt, readIn}
-use Rattle.session.specs.State.{St, st, Out, out, stepped, at, Good}
+use Rattle.session.specs.Reports.{readIn}
+use Rattle.session.specs.State.{St, st, out, stepped, at, Good}
 use Rattle.session.specs.Steps.{readOn}
-use Rattle.session.specs.declared.Pending.{Pending}
 use Rattle.session.specs.declared.Pending.the-variants.{Idle, Reading}
 use Rattle.session.specs.declared.Phase.{Phase}
 use Rattle.session.specs.declared.Reply.the-variants.{Read}
-
-pub admitted : (s : St) (k n : ℕ) → k ≡ refusalAt s n → k ≤ 0 → Good s
-unfolding reportRefusal
-admitted s k n e h = let-in s k _ e h
-
-pub reported : (s : St) (k j : ℕ) → k ≡ j → k ≤ 0 → (f : Pending → Out) {p : Pending} {o : Out} → s .ses .pending ≡ p → o ≡ f p → o ≡ unless j s (f (s .ses .pending))
-reported s k j e l f g h = case f g h ∙ unless-in s k _ j e l
 
 -- k bytes came, and the window has them: b is the cursor with them held
 module _ (s : St) (g : Good s) (k : ℕ) (b : RecvBuf) (is : b ≡ filled (s .ses .buf) k (s .ses .capacity)) (fits : k ≤ s .ses .capacity - s .ses .buf .tail) where

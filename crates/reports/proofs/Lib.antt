@@ -1,2 +1,2 @@
--- `Laws`: a report that is not refused by 3, 6 or 5.
+-- `Laws`: the cases of a read in the window.
 pub mod Laws

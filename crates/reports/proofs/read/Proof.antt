@@ -1,6 +1,6 @@
 -- `reports::read` meets its contract: refused by 3, 6 or 5, or as the pending step has it. Assumes nothing.
 use Rattle.pump.proofs.Parts.{out-eq}
-use Rattle.reports.proofs.Laws.{admitted, reported}
+use Rattle.reported.proofs.Laws.{admitted, reported}
 use Rattle.sender.proofs.Refused.{unless-out}
 use Rattle.session.specs.Reports.{readAt, reportRead}
 use Rattle.session.specs.State.{st}

@@ -1,6 +1,6 @@
--- `reports::fault` meets its contract: refused by 3, 6 or 5, or as the pending step has it. Assumes nothing.
+-- `faults::fault` meets its contract: refused by 3, 6 or 5, or as the pending step has it. Assumes nothing.
 use Rattle.pump.proofs.Parts.{out-eq}
-use Rattle.reports.proofs.Laws.{admitted, reported}
+use Rattle.reported.proofs.Laws.{admitted, reported}
 use Rattle.sender.proofs.Refused.{unless-out}
 use Rattle.session.specs.Reports.{closedOut, faultAt, reportFault}
 use Rattle.session.specs.State.{st}
@@ -8,8 +8,8 @@ use Rattle.session.specs.declared.Pending.{Pending}
 use borrow.Author.Needs.{needs}
 use denote.Ref.{now}
 use mathlib.Core.Path.{ap, _∙_}
-use Rattle.reports.proofs.fault.Statement.{statement}
-use Rattle.reports.proofs.fault.Tie as tie
+use Rattle.faults.proofs.fault.Statement.{statement}
+use Rattle.faults.proofs.fault.Tie as tie
 
 returns : tie.Need-returns
 unfolding reportFault

@@ -1,9 +1,9 @@
--- `reports::read_fault` meets its contract. Assumes nothing.
+-- `faults::read_fault` meets its contract. Assumes nothing.
 use Rattle.session.specs.State.{answering}
 use borrow.Author.Needs.{needs}
 use mathlib.Core.Path.{ap, _∙_}
-use Rattle.reports.proofs.read_fault.Statement.{statement}
-use Rattle.reports.proofs.read_fault.Tie as tie
+use Rattle.faults.proofs.read_fault.Statement.{statement}
+use Rattle.faults.proofs.read_fault.Tie as tie
 
 pub read-fault-spec : {M : Type 1} → statement M
 read-fault-spec =

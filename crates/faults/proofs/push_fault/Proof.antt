@@ -1,4 +1,4 @@
--- `reports::push_fault` meets its contract. Assumes nothing.
+-- `faults::push_fault` meets its contract. Assumes nothing.
 use Rattle.phases.proofs.Turns.{case}
 use Rattle.pump.proofs.Parts.{out-eq}
 use Rattle.session.proofs.Misfit.{guarded-in}
@@ -7,8 +7,8 @@ use Rattle.session.specs.State.{st}
 use borrow.Author.Needs.{needs}
 use denote.Ref.{now}
 use mathlib.Core.Path.{_∙_}
-use Rattle.reports.proofs.push_fault.Statement.{statement}
-use Rattle.reports.proofs.push_fault.Tie as tie
+use Rattle.faults.proofs.push_fault.Statement.{statement}
+use Rattle.faults.proofs.push_fault.Tie as tie
 
 returns : tie.Need-returns
 returns c =

@@ -1,10 +1,10 @@
--- `reports::report_refusal` meets its contract. Assumes nothing.
+-- `reported::report_refusal` meets its contract. Assumes nothing.
 use Rattle.session.specs.Calls.{isIdle}
 use Rattle.session.specs.Reports.{reportRefusal}
 use borrow.Author.Needs.{needs}
 use mathlib.Core.Path.{sym, ap, _∙_}
-use Rattle.reports.proofs.report_refusal.Statement.{statement}
-use Rattle.reports.proofs.report_refusal.Tie as tie
+use Rattle.reported.proofs.report_refusal.Statement.{statement}
+use Rattle.reported.proofs.report_refusal.Tie as tie
 
 pub report-refusal-spec : {M : Type 1} → statement M
 unfolding reportRefusal

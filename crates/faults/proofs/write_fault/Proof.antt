@@ -1,4 +1,4 @@
--- `reports::write_fault` meets its contract, request by request. Assumes nothing.
+-- `faults::write_fault` meets its contract, request by request. Assumes nothing.
 use Rattle.phases.proofs.Turns.{case}
 use Rattle.pump.proofs.Parts.{out-eq}
 use Rattle.request.specs.declared.Request.{Request}
@@ -7,8 +7,8 @@ use Rattle.session.specs.State.{St, Out, answering}
 use Rattle.session.specs.declared.Fault.{Fault}
 use borrow.Author.Needs.{needs}
 use mathlib.Core.Path.{_≡_, ap, _∙_}
-use Rattle.reports.proofs.write_fault.Statement.{statement}
-use Rattle.reports.proofs.write_fault.Tie as tie
+use Rattle.faults.proofs.write_fault.Statement.{statement}
+use Rattle.faults.proofs.write_fault.Tie as tie
 
 matched : (s : St) (e : Fault) {o : Out} {q r : Request} → q ≡ r → o ≡ writeFault s r e → o ≡ writeFault s q e
 matched s e f h = case (λ (z : Request). writeFault s z e) f h

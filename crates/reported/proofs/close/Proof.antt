@@ -1,8 +1,8 @@
--- `reports::close` meets its contract. Assumes nothing.
+-- `reported::close` meets its contract. Assumes nothing.
 use Rattle.pump.proofs.Parts.{out-eq}
 use borrow.Author.Needs.{needs}
-use Rattle.reports.proofs.close.Statement.{statement}
-use Rattle.reports.proofs.close.Tie as tie
+use Rattle.reported.proofs.close.Statement.{statement}
+use Rattle.reported.proofs.close.Tie as tie
 
 pub close-spec : {M : Type 1} → statement M
 close-spec =

@@ -1,7 +1,7 @@
--- `reports::lent_refusal` meets its contract. Assumes nothing.
+-- `reported::lent_refusal` meets its contract. Assumes nothing.
 use borrow.Author.Tests.{eq-eqb, ne-eqb}
-use Rattle.reports.proofs.lent_refusal.Statement.{statement}
-use Rattle.reports.proofs.lent_refusal.Tie as tie
+use Rattle.reported.proofs.lent_refusal.Statement.{statement}
+use Rattle.reported.proofs.lent_refusal.Tie as tie
 
 pub lent-refusal-spec : {M : Type 1} → statement M
 lent-refusal-spec =

@@ -1,11 +1,11 @@
--- `reports::quit_fault` meets its contract. Assumes nothing.
+-- `faults::quit_fault` meets its contract. Assumes nothing.
 use Rattle.phases.proofs.Turns.{case}
 use Rattle.pump.proofs.Parts.{out-eq}
 use Rattle.session.specs.Reports.{quitFault}
 use Rattle.session.specs.State.{st}
 use borrow.Author.Needs.{needs}
-use Rattle.reports.proofs.quit_fault.Statement.{statement}
-use Rattle.reports.proofs.quit_fault.Tie as tie
+use Rattle.faults.proofs.quit_fault.Statement.{statement}
+use Rattle.faults.proofs.quit_fault.Tie as tie
 
 pub quit-fault-spec : {M : Type 1} → statement M
 quit-fault-spec =

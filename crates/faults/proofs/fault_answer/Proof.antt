@@ -1,10 +1,10 @@
--- `reports::fault_answer` meets its contract. Assumes nothing.
+-- `faults::fault_answer` meets its contract. Assumes nothing.
 use Rattle.phases.proofs.Turns.{case}
 use Rattle.session.specs.Reports.{faultAnswer}
 use borrow.Author.Needs.{needs}
 use mathlib.Core.Path.{refl}
-use Rattle.reports.proofs.fault_answer.Statement.{statement}
-use Rattle.reports.proofs.fault_answer.Tie as tie
+use Rattle.faults.proofs.fault_answer.Statement.{statement}
+use Rattle.faults.proofs.fault_answer.Tie as tie
 
 pub fault-answer-spec : {M : Type 1} → statement M
 fault-answer-spec =
