@@ -5,6 +5,7 @@ ghost use Rattle.session.specs.Calls.{callRefusal, startCall, entryCall, chunkC
 ghost use Rattle.session.specs.State.{st, out, half, begun};
 ghost use Rattle.session.specs.Steps.{carried, sent};
 ghost use Rattle.calls.specs.Opening.{opened};
+use carried::carried;
 use features::Features;
 use pump::read_on;
 use pump::tidy;
@@ -12,7 +13,6 @@ use recv_buf::RecvBuf;
 use refusal::Check;
 use refusal::check_request;
 use request::Request;
-use sender::carried;
 use sender::send;
 use session::Answer;
 use session::Pending;

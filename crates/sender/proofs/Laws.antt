@@ -1,15 +1,14 @@
 -- What a message carries, how long it is and how many pieces it has, and the cases of `messageOut` and `wroteOn`. Assumes nothing.
 use Prim.Native.Nat.{ℕ, _+_, _-_, _≤_, _<_}
 use mathlib.Core.Bool.{Bool, true, false, true≢false}
-use mathlib.Core.List.{List, [], _∷_}
-use mathlib.Core.Path.{_≡_, refl, sym, ap, _∙_}
+use mathlib.Core.List.{List}
+use mathlib.Core.Path.{_≡_, sym, ap, _∙_}
 use native.Mathlib.Decide.{decLe}
 use native.Mathlib.Nat.{lt-of-not-le}
 use native.Mathlib.Omega.{arith}
 use borrow.Author.Tests.{le-leb, lt-leb, eq-eqb, ne-eqb}
 use lib.Dec.{eqb, leb}
-use lib.ListN.{length, take, drop, length-append, length-take, length-drop, drop-of-length-le, List·getD-eq-default}
-use lib.Seq.{take-all, take-nil}
+use lib.ListN.{length, drop, length-append, length-take, length-drop, List·getD-eq-default}
 use Rattle.protocol.specs.Bytes.{pick, put}
 use Rattle.protocol.specs.Ids.{published}
 use Rattle.protocol.specs.Messages.{dataMost, header, joined, messageOf, bytesOfRequest}
@@ -26,7 +25,7 @@ use Rattle.request.specs.Meaning.{meant}
 use Rattle.request.specs.declared.Request.{Request}
 use Rattle.request.specs.declared.Request.the-variants as Q
 use Rattle.session.specs.State.{St, out, Half, half, stepped, at}
-use Rattle.session.specs.Steps.{isData, carried, isEnd, sendPiece, messageOut, sent, resumed, wroteOn}
+use Rattle.session.specs.Steps.{carried, isEnd, sendPiece, messageOut, sent, resumed, wroteOn}
 use Rattle.session.specs.declared.Pending.the-variants.{Idle, Writing}
 use Rattle.session.specs.declared.Reply.the-variants.{WriteRx}
 use Rattle.session.specs.declared.Session.{Session}
@@ -35,26 +34,7 @@ use Rattle.sender.specs.Pieces.{pieceSent, dataOn}
 
 -- ---- what a message carries
 
-module _ (q : Request) (from : ℕ) (lent : List ℕ) where
-  pub carried-all : isData q ≡ false → lent ≡ carried q from lent
-  unfolding carried
-  carried-all e = rw e
-
-  module _ (e : isData q ≡ true) where
-    pub carried-none : length lent < from → [] ≡ carried q from lent
-    unfolding carried
-    carried-none h = rw (e, drop-of-length-le lent {i = from} (omega arith)) (sym (take-nil dataMost))
-
-    pub carried-rest : length lent - from ≤ dataMost → take (length lent - from) (drop from lent) ≡ carried q from lent
-    unfolding carried
-    carried-rest h =
-        rw (e, take-all (length lent - from) (drop from lent) (omega (arith, length-drop from lent)), take-all dataMost (drop from lent) (omega (arith, length-drop from lent)))
-
-    pub carried-most : take (from + dataMost - from) (drop from lent) ≡ carried q from lent
-    unfolding carried
-    carried-most = let n : from + dataMost - from ≡ dataMost = omega arith in rw (e, n)
-
--- ... is there
+-- it is there
 pub carried-room : (from : ℕ) (lent : List ℕ) → length (carried Q.Data from lent) ≤ length lent - from
 unfolding carried
 carried-room from lent = omega (arith, length-take dataMost (drop from lent), length-drop from lent)

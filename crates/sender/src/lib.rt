@@ -5,8 +5,9 @@ ghost use Prim.Native.Nat.{_<_};
 ghost use lib.ListN.{length};
 ghost use Rattle.session.specs.Calls.{guarded};
 ghost use Rattle.session.specs.State.{st, out, half, Fits};
-ghost use Rattle.session.specs.Steps.{readOn, tidied, isData, isEnd, carried, pieceReply, sendPiece, messageOut, sent, resumed, wroteOn};
+ghost use Rattle.session.specs.Steps.{readOn, tidied, isEnd, pieceReply, sendPiece, messageOut, sent, resumed, wroteOn};
 ghost use Rattle.sender.specs.Pieces.{pieceSent, dataOn, closing};
+use carried::carried;
 use message::compose_at;
 use piece::Piece;
 use piece::piece_at;
@@ -21,45 +22,6 @@ use session::Session;
 use session::Stepped;
 use session::Version;
 use session::Want;
-
-// Data goes in messages of at most this many bytes.
-const DATA_MAX: usize = 65536;
-
-fn is_data(q: Request) -> bool
-    ensures { λ r. ⌜ r ≡ isData q ⌝ }
-{
-    match q {
-        Request::Stat => false,
-        Request::Sta2 => false,
-        Request::List => false,
-        Request::Lis2 => false,
-        Request::Recv => false,
-        Request::Rcv2(_) => false,
-        Request::Send(_) => false,
-        Request::Snd2(_, _) => false,
-        Request::Data => true,
-        Request::Done(_) => false,
-        Request::Quit => false,
-    }
-}
-
-// The part of what is lent that a message carries: of data at most 65,536 bytes, from `from` on.
-pub fn carried(q: Request, from: usize, lent: &[u8]) -> &[u8]
-    ensures { λ r. ⌜ now r ≡ carried q from (now (lent .entry)) ⌝ }
-{
-    if is_data(q) {
-        if lent.len() < from {
-            return &lent[..0];
-        }
-        let left = lent.len() - from;
-        if left < DATA_MAX {
-            return &lent[from..];
-        }
-        let end = from + DATA_MAX;
-        return &lent[from..end];
-    }
-    lent
-}
 
 fn piece_reply(from: usize, n: usize, p: Piece) -> Reply
     ensures { λ r. ⌜ r ≡ pieceReply from n p ⌝ }

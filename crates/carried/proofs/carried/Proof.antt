@@ -1,11 +1,11 @@
--- `sender::carried` meets its contract. Assumes nothing.
-use Rattle.sender.proofs.Laws.{carried-none, carried-rest, carried-most, carried-all}
+-- `carried::carried` meets its contract. Assumes nothing.
+use Rattle.carried.proofs.Laws.{carried-none, carried-rest, carried-most, carried-all}
 use borrow.Author.Needs.{needs}
 use denote.Ref.{now}
 use mathlib.Core.Path.{sym, _∙_}
 use native.Mathlib.Omega.{arith}
-use Rattle.sender.proofs.carried.Statement.{statement}
-use Rattle.sender.proofs.carried.Tie as tie
+use Rattle.carried.proofs.carried.Statement.{statement}
+use Rattle.carried.proofs.carried.Tie as tie
 
 returns : tie.Need-returns
 returns c = carried-none (c .before .before .before .before .before .args .q) (c .before .before .before .before .before .args .from) (now (c .before .before .before .before .before .args .lent)) (sym (c .before .before .before .is-data .ensures) ∙ c .before .before .if1 .taken) (c .before .if2 .taken)

@@ -1,0 +1,2 @@
+-- `Laws`: the cases of what a message carries.
+pub mod Laws
