@@ -27,7 +27,8 @@ use Rattle.recv_buf.specs.RecvBuf.{cursor, heldCount, compacted}
 use Rattle.recv_buf.specs.declared.RecvBuf.{RecvBuf}
 use Rattle.recv_buf.proofs.Laws.{Sound, compacted-head, compacted-length}
 use Rattle.request.specs.Meaning.{meant}
-use Rattle.sender.proofs.Laws.{carried-all, whole-out}
+use Rattle.carried.proofs.Laws.{carried-all}
+use Rattle.sender.proofs.Laws.{whole-out}
 use Rattle.session.specs.Calls.{settingOf, startCall}
 use Rattle.session.specs.Core.{askOf, featuresFrom}
 use Rattle.session.specs.State as S
