@@ -59,6 +59,25 @@ pub extern "C" fn yuglasno_open(rec: &mut [u8], banner: &[u8], rx: usize, msg: u
     }
 }
 
+// The next chunk of a pull, the short way where it can be; any other call the long way.
+fn start_next(
+    rec: &mut [u8],
+    rx: &mut [u8],
+    msg: &mut [u8],
+    lent: &[u8],
+    call: u32,
+    a: u32,
+    b: u32,
+    out: &mut [u8],
+) -> u32
+    ensures { λ r. ⌜ crossed (now (rec .exit)) (now (rx .exit)) (now (msg .exit)) (now (out .exit)) r ≡ crossStart (now (rec .entry)) (now (rx .entry)) (now (msg .entry)) (now (lent .entry)) call a b (now (out .entry)) ⌝ }
+{
+    if next(rec, rx, msg, lent, call, out) {
+        return READ;
+    }
+    start_anew(rec, rx, msg, lent, call, a, b, out)
+}
+
 // Starts a call by its number, 1 to 14: a is its mode or its time, b its flags. What can be taken on the record's numbers goes the short way.
 #[no_mangle]
 pub extern "C" fn yuglasno_start(
@@ -79,10 +98,7 @@ pub extern "C" fn yuglasno_start(
     if request(rec, rx, msg, lent, call, out) {
         return WRITE_RX;
     }
-    if next(rec, rx, msg, lent, call, out) {
-        return READ;
-    }
-    start_anew(rec, rx, msg, lent, call, a, b, out)
+    start_next(rec, rx, msg, lent, call, a, b, out)
 }
 
 // count bytes were read that leave no need short: of a chunk, the short way where it can be.

@@ -8,7 +8,7 @@ use Rattle.exports.proofs.read_short.Statement.{statement}
 use Rattle.exports.proofs.read_short.Tie as tie
 
 met : tie.Need-read-met-requires
-met c κs = sym (c .before .before .before .before .before .if1 .taken) ∙ c .before .before .before .before .before .before .short-tail .ensures
+met c κs = sym (c .before .before .before .before .if1 .taken) ∙ c .before .before .before .before .before .short-tail .ensures
 
 away : tie.Need-returns-2
 away c = let a = c .before .before .before .before .before .before .before .before .before .before .before .before .before .before .before .before .before .before .before .before .before .before .args in c .before .before .before .before .before .before .before .before .read-anew .ensures ∙ read-away (now (a .rec)) (now (a .rx)) (now (a .msg)) (now (a .lent)) (now (a .out)) (a .count) (c .before .before .before .before .before .before .before .before .before .before .before .before .before .if2 .taken)

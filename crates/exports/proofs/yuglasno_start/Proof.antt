@@ -25,20 +25,12 @@ request c =
     was-taken _ _ _ _ _ (c .before .before .before .before .before .before .before .request .ensures (a .a) (a .b)) (c .if2 .taken)
     ∙ ap (again (now (a .lent)) (a .call) (a .a) (a .b)) (was-left _ _ _ _ _ (c .before .before .before .before .before .before .before .before .before .before .before .before .before .before .before .before .before .entry .ensures (a .a) (a .b)) (c .before .before .before .before .before .before .before .before .before .before .before .before .if1 .left))
 
-next : tie.Need-returns-3
-next c =
-    let a = c .before .before .before .before .before .before .before .before .before .before .before .before .before .before .before .before .before .before .before .before .before .before .before .before .before .before .before .before .before .before .before .before .before .before .before .before .before .args in
-    was-taken _ _ _ _ _ (c .before .before .before .before .before .next .ensures (a .a) (a .b)) (c .if3 .taken)
-    ∙ ap (again (now (a .lent)) (a .call) (a .a) (a .b)) (was-left _ _ _ _ _ (c .before .before .before .before .before .before .before .before .before .before .before .before .before .before .before .before .before .request .ensures (a .a) (a .b)) (c .before .before .before .before .before .before .before .before .before .before .if2 .left))
-    ∙ ap (again (now (a .lent)) (a .call) (a .a) (a .b)) (was-left _ _ _ _ _ (c .before .before .before .before .before .before .before .before .before .before .before .before .before .before .before .before .before .before .before .before .before .before .before .before .before .before .before .entry .ensures (a .a) (a .b)) (c .before .before .before .before .before .before .before .before .before .before .before .before .before .before .before .before .before .before .before .before .before .before .if1 .left))
-
-anew : tie.Need-returns-4
-anew c =
-    let a = c .before .before .before .before .before .before .before .before .before .before .before .before .before .before .before .before .before .before .before .before .before .before .before .before .before .before .before .before .before .before .before .before .before .before .before .before .before .before .before .before .before .before .before .before .before .before .before .before .before .before .args in
-    c .before .before .before .before .before .before .before .before .start-anew .ensures
-    ∙ ap (again (now (a .lent)) (a .call) (a .a) (a .b)) (was-left _ _ _ _ _ (c .before .before .before .before .before .before .before .before .before .before .before .before .before .before .before .before .before .before .next .ensures (a .a) (a .b)) (c .before .before .before .before .before .before .before .before .before .before .before .before .before .if3 .left))
-    ∙ ap (again (now (a .lent)) (a .call) (a .a) (a .b)) (was-left _ _ _ _ _ (c .before .before .before .before .before .before .before .before .before .before .before .before .before .before .before .before .before .before .before .before .before .before .before .before .before .before .before .before .before .before .request .ensures (a .a) (a .b)) (c .before .before .before .before .before .before .before .before .before .before .before .before .before .before .before .before .before .before .before .before .before .before .before .if2 .left))
-    ∙ ap (again (now (a .lent)) (a .call) (a .a) (a .b)) (was-left _ _ _ _ _ (c .before .before .before .before .before .before .before .before .before .before .before .before .before .before .before .before .before .before .before .before .before .before .before .before .before .before .before .before .before .before .before .before .before .before .before .before .before .before .before .before .entry .ensures (a .a) (a .b)) (c .before .before .before .before .before .before .before .before .before .before .before .before .before .before .before .before .before .before .before .before .before .before .before .before .before .before .before .before .before .before .before .before .before .before .before .if1 .left))
+rest : tie.Need-returns-3
+rest c =
+    let a = c .before .before .before .before .before .before .before .before .before .before .before .before .before .before .before .before .before .before .before .before .before .before .before .before .before .before .before .before .before .before .before .before .before .before .before .before .before .before .before .before .args in
+    c .before .before .before .before .before .before .before .before .start-next .ensures
+    ∙ ap (again (now (a .lent)) (a .call) (a .a) (a .b)) (was-left _ _ _ _ _ (c .before .before .before .before .before .before .before .before .before .before .before .before .before .before .before .before .before .before .before .before .request .ensures (a .a) (a .b)) (c .before .before .before .before .before .before .before .before .before .before .before .before .before .if2 .left))
+    ∙ ap (again (now (a .lent)) (a .call) (a .a) (a .b)) (was-left _ _ _ _ _ (c .before .before .before .before .before .before .before .before .before .before .before .before .before .before .before .before .before .before .before .before .before .before .before .before .before .before .before .before .before .before .entry .ensures (a .a) (a .b)) (c .before .before .before .before .before .before .before .before .before .before .before .before .before .before .before .before .before .before .before .before .before .before .before .before .before .if1 .left))
 
 pub yuglasno-start-spec : {M : Type 1} → statement M
 yuglasno-start-spec =
@@ -61,10 +53,4 @@ yuglasno-start-spec =
     (λ c. search needs)
     (λ c. search needs)
     (λ c. search needs)
-    next
-    (λ c κs. search needs)
-    (λ c. search needs)
-    (λ c. search needs)
-    (λ c. search needs)
-    (λ c. search needs)
-    anew)
+    rest)
