@@ -28,7 +28,7 @@ use Rattle.session.specs.Core as C
 use Rattle.session.specs.Core.{askOf, faultOf, showOf, begin, core}
 use Rattle.session.specs.Demand3.{Coded, CodedReport, Wide, AllWide}
 use Rattle.session.specs.EveryHost.{CodedHost}
-use Rattle.session.specs.Host.{Step, Host, Ask, World, newCall, hasRead, counted, filling, lentOf, Run, over-with, unended, grantRead, grantWrite, grantClose, granted, run, enough, runCall, Entry, onRun, logOf}
+use Rattle.session.specs.Host.{Step, Host, Ask, World, newCall, hasRead, composing, counted, filling, lentOf, Run, over-with, unended, grantRead, grantWrite, grantClose, granted, run, enough, runCall, Entry, onRun, logOf}
 use Rattle.session.specs.Reports.{reportRead, reportWrote, reportFault}
 use Rattle.session.specs.State.{St, st, Out, at}
 use Rattle.session.proofs.Buf.{sound-of, good-at, held-came}
@@ -137,10 +137,10 @@ module _ (h : Host) (z : CodedHost h) (lent : List ℕ) (short : U64 (length len
         rw (fault-image t x lent e f) (on (t .ses) w′ (reportFault t (length lent) (faultOf e)) f y)
 
     module _ (t : St) (x : Inv t) (r : Reply) where
-      write-same : (p : List ℕ) (o : Report) → CodedReport o
-          → Same (grantWrite exported h lent k w (image (replying t r)) p o) (grantWrite core h lent k′ w (C.stepOf (replying t r)) p o)
-      write-same p accepted c = wrote-same _ t x b
-      write-same p (broke e) c = fault-same _ t e c x b
+      write-same : (w′ : World) → Bytes (w′ .left) → (p : List ℕ) (o : Report) → CodedReport o
+          → Same (grantWrite exported h lent k w′ (image (replying t r)) p o) (grantWrite core h lent k′ w′ (C.stepOf (replying t r)) p o)
+      write-same w′ y p accepted c = wrote-same _ t x y
+      write-same w′ y p (broke e) c = fault-same _ t e c x y
 
       close-same : (o : Report) → CodedReport o
           → Same (grantClose exported h lent k w (image (replying t r)) o) (grantClose core h lent k′ w (C.stepOf (replying t r)) o)
@@ -183,10 +183,10 @@ module _ (h : Host) (z : CodedHost h) (lent : List ℕ) (short : U64 (length len
         (λ e. let (c, d) = and-eq-true-iff (ltb 0 len) (leb (i + len) (length (t .rx))) .0 e in
         (read-same t (f .inv) (R.Read i len) i len (f .window) (ltb-true 0 len c) (leb-true _ _ d) (w .left) refl))
     granted-same s₀ t (R.WriteRx i len) f =
-        same-if (leb (i + len) (length (t .rx))) _ _ (λ e. write-same t (f .inv) (R.WriteRx i len) _ (h .writes (w .writes)) (z .writes (w .writes)))
+        same-if (leb (i + len) (length (t .rx))) _ _ (λ e. write-same t (f .inv) (R.WriteRx i len) (composing i w) b _ (h .writes (w .writes)) (z .writes (w .writes)))
     granted-same s₀ t (R.WriteLent i len) f =
-        same-if (leb (i + len) (length lent)) _ _ (λ e. write-same t (f .inv) (R.WriteLent i len) _ (h .writes (w .writes)) (z .writes (w .writes)))
-    granted-same s₀ t (R.WriteBytes p) f = write-same t (f .inv) (R.WriteBytes p) _ (h .writes (w .writes)) (z .writes (w .writes))
+        same-if (leb (i + len) (length lent)) _ _ (λ e. write-same t (f .inv) (R.WriteLent i len) w b _ (h .writes (w .writes)) (z .writes (w .writes)))
+    granted-same s₀ t (R.WriteBytes p) f = write-same t (f .inv) (R.WriteBytes p) w b _ (h .writes (w .writes)) (z .writes (w .writes))
     granted-same s₀ t R.Close f = close-same t (f .inv) R.Close (h .close) (z .close)
 
   run-same : (n : ℕ) (s₀ : Session) (w : World) (o : Out) → Fine s₀ o → Bytes (w .left)

@@ -9,7 +9,7 @@ use lib.ListN.{length, take, drop}
 use Rattle.protocol.specs.Bytes.{pick}
 use Rattle.protocol.specs.Calls.{Call}
 use Rattle.protocol.specs.Reader.{Report, accepted, broke}
-use Rattle.session.specs.Host.{Show, told, read, writeRx, writeLent, writeBytes, close, Step, Engine, Host, World, newCall, hasRead, hasWritten, hasClosed, counted, lentOf}
+use Rattle.session.specs.Host.{Show, told, read, writeRx, writeLent, writeBytes, close, Step, Engine, Host, World, newCall, hasRead, hasWritten, composing, hasClosed, counted, lentOf}
 use Rattle.session.specs.Host.{Run, over-with, unended, asking, grantRead, grantWrite, grantClose, granted, run, enough, runCall, Entry, onRun, logOf}
 
 abbrev pub AllAccepted : List Entry → Type 0
@@ -34,8 +34,8 @@ module _ {X : Type 0} (E : Engine X) (h : Host) (accepts : (i : ℕ) → h .writ
           let n : ℕ = counted (h .count (w .reads)) len (length (w .left)) in
           on (hasRead n (asking E h lent k w s at len n) w) _ e
 
-      write-kept : (b : List ℕ) → Kept (grantWrite E h lent k w s b (h .writes (w .writes)))
-      write-kept b = rw (accepts (w .writes)) (on (hasWritten b w) _ e)
+      write-kept : (w′ : World) (b : List ℕ) → w′ .broken ≡ [] → Kept (grantWrite E h lent k w′ s b (h .writes (w .writes)))
+      write-kept w′ b e′ = rw (accepts (w .writes)) (on (hasWritten b w′) _ e′)
 
       close-kept : (r : Report) → Kept (grantClose E h lent k w s r)
       close-kept accepted = on (hasClosed w) _ e
@@ -47,11 +47,11 @@ module _ {X : Type 0} (E : Engine X) (h : Host) (accepts : (i : ℕ) → h .writ
           kept-unless (ltb 0 len && leb (at + len) (length (s .rx))) (grantRead E h lent k w s at len (w .left)) (read-kept at len (w .left))
       granted-kept (writeRx at len) =
           let b : List ℕ = take len (drop at (s .rx)) in
-          kept-unless (leb (at + len) (length (s .rx))) (grantWrite E h lent k w s b (h .writes (w .writes))) (write-kept b)
+          kept-unless (leb (at + len) (length (s .rx))) (grantWrite E h lent k (composing at w) s b (h .writes (w .writes))) (write-kept (composing at w) b e)
       granted-kept (writeLent at len) =
           let b : List ℕ = take len (drop at lent) in
-          kept-unless (leb (at + len) (length lent)) (grantWrite E h lent k w s b (h .writes (w .writes))) (write-kept b)
-      granted-kept (writeBytes b) = write-kept b
+          kept-unless (leb (at + len) (length lent)) (grantWrite E h lent k w s b (h .writes (w .writes))) (write-kept w b e)
+      granted-kept (writeBytes b) = write-kept w b e
       granted-kept close = close-kept (h .close)
 
     run-kept : (n : ℕ) (w : World) (s : Step X) → w .broken ≡ [] → Kept (run E h lent n w s)

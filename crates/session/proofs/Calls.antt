@@ -25,7 +25,7 @@ use Rattle.session.specs.declared.Want.{Want}
 use Rattle.session.specs.declared.Want.the-variants as W
 use Rattle.session.specs.Calls.{settingOf}
 use Rattle.session.specs.Core.{requestOf, core}
-use Rattle.session.specs.Faithful.{meetsHeader, Faithful}
+use Rattle.session.specs.Faithful.{Composed, meetsHeader, Faithful}
 use Rattle.session.specs.Host.{Host, World, lentOf, Run, over-with, unended, enough, runCall, Entry, onRun, logOf}
 use Rattle.session.specs.Phases.{wants}
 use Rattle.session.specs.Reports.{writeFault}
@@ -35,7 +35,7 @@ use Rattle.session.proofs.Data.{data-compacts, data-stays, sending, dat
 use Rattle.session.proofs.Follows.{Breaks, header-ok, plain-breaks, push-breaks, close-ok, done-follows}
 use Rattle.session.proofs.Refusals.{openOf, Begins, begins, refused}
 use Rattle.session.proofs.Run.{configOf, Comes, fault-told}
-use Rattle.session.proofs.Sends.{path-ok, bare-ok}
+use Rattle.session.proofs.Sends.{Behind, path-ok, bare-ok}
 use Rattle.session.proofs.Site.{once, Site, all, rests, Goes, later, started, Mid, mid-at, mid-started, mid-tidied, LetIn, rests-is, all-is}
 use Rattle.session.proofs.Turns.{held, cont, restOf}
 
@@ -50,12 +50,12 @@ module _ (h : Host) (w : World) (s : St) (good : Good s) (live : s .ses .ended �
   at q = record { host = h; world = w; state = s; call = q }
 
   -- a call that is done once its one message is out
-  starts : (q : Call) → LetIn (at q) → (rq : Request) → Breaks (at q) (length (held s)) (later (at q)) rq → rests (at q) accepted ≡ length (held s) → isQuit q ≡ false
+  starts : (q : Call) → LetIn (at q) → Behind (at q) → (rq : Request) → Breaks (at q) (length (held s)) (later (at q)) rq → rests (at q) accepted ≡ length (held s) → isQuit q ≡ false
       → messages q ≡ meant rq (lentOf q) ∷ [] → carried rq 0 (lentOf q) ≡ lentOf q → ((t : St) → resumed t rq 0 (lentOf q) ≡ told t A.Done)
       → written (configOf (s .ses) (h .close)) q ≡ answer P.done → length (w .left) + 7 ≤ enough q w
       → Goes (at q) (enough q w) (w .writes) [] [] (beside (messageOut (begun (s .ses) (length (lentOf q))) (s .rx) rq 0 (lentOf q)) (s .msg))
-  starts q lets rq breaks rest-at stays one carries goes ends l =
-      path-ok (at q) lets good live rq (length (held s)) breaks (done-follows (at q) lets rq (length (held s)) rest-at stays goes ends) (enough q w) refl one carries
+  starts q lets behind rq breaks rest-at stays one carries goes ends l =
+      path-ok (at q) lets good live rq (length (held s)) breaks (done-follows (at q) lets rq (length (held s)) rest-at stays goes ends) (enough q w) refl behind one carries
       (omega arith)
 
   -- a call that reads a header, all it writes accepted
@@ -67,16 +67,16 @@ module _ (h : Host) (w : World) (s : St) (good : Good s) (live : s .ses .ended �
   reads q lets f i xs t x stays l m e goes meets = header-ok (at q) lets stays f i xs [] t x false live l m e goes (fault-told (h .end)) meets
 
   -- stat: its reply follows
-  stat-ok : (q : Call) → LetIn (at q) → (rq : Request) (x : Want) → Breaks (at q) (length (held s)) (later (at q)) rq → rests (at q) accepted ≡ length (held s) → isQuit q ≡ false
+  stat-ok : (q : Call) → LetIn (at q) → Behind (at q) → (rq : Request) (x : Want) → Breaks (at q) (length (held s)) (later (at q)) rq → rests (at q) accepted ≡ length (held s) → isQuit q ≡ false
       → messages q ≡ meant rq (lentOf q) ∷ [] → carried rq 0 (lentOf q) ≡ lentOf q
       → ((t : St) → resumed t rq 0 (lentOf q) ≡ readOn t (Header x) false)
       → ((msg y : List ℕ) → plain (s .ses .capacity) (written (configOf (s .ses) (h .close)) q) y
       ≡ plain (s .ses .capacity) (restOf (s .ses .capacity) msg (Header x)) y)
       → meetsHeader (written (configOf (s .ses) (h .close)) q) ≡ true → length (w .left) + 7 ≤ enough q w
       → Goes (at q) (enough q w) (w .writes) [] [] (beside (messageOut (begun (s .ses) (length (lentOf q))) (s .rx) rq 0 (lentOf q)) (s .msg))
-  stat-ok q lets rq x breaks rest-at stays one carries resumes goes meets l =
+  stat-ok q lets behind rq x breaks rest-at stays one carries resumes goes meets l =
       path-ok (at q) lets good live rq (length (held s)) breaks
-      (λ f i t m y. rw (resumes t) (reads q lets f i (all (at q)) t x stays m (mid-at (at q) t y rest-at) refl goes meets)) (enough q w) refl one carries
+      (λ f i t m y. rw (resumes t) (reads q lets f i (all (at q)) t x stays m (mid-at (at q) t y rest-at) refl goes meets)) (enough q w) refl behind one carries
       (omega arith)
 
   quit-breaks : LetIn (at (call quit)) → Breaks (at (call quit)) (s .ses .buf .tail) (later (at (call quit))) Q.Quit
@@ -90,33 +90,33 @@ module _ (h : Host) (w : World) (s : St) (good : Good s) (live : s .ses .ended �
   unfolding messages carried sent writeFault writeBroke written resumed cont wants messageOf cut
   open-ok (call (ask stat p)) lets =
       let c : Site = at (call (ask stat p)) in
-      stat-ok (c .call) lets Q.Stat (W.Stat V1) (plain-breaks c lets refl Q.Stat _ (λ e. rests-is c lets (broke e)) (λ t e. refl) (λ e. refl)) (rests-is c lets accepted) refl refl refl (λ t. refl) (λ msg y. refl) refl
+      stat-ok (c .call) lets (λ i is e d. (e, d)) Q.Stat (W.Stat V1) (plain-breaks c lets refl Q.Stat _ (λ e. rests-is c lets (broke e)) (λ t e. refl) (λ e. refl)) (rests-is c lets accepted) refl refl refl (λ t. refl) (λ msg y. refl) refl
       (omega arith)
   open-ok (call (ask sta2 p)) lets =
       let c : Site = at (call (ask sta2 p)) in
-      stat-ok (c .call) lets Q.Sta2 (W.Stat V2) (plain-breaks c lets refl Q.Sta2 _ (λ e. rests-is c lets (broke e)) (λ t e. refl) (λ e. refl)) (rests-is c lets accepted) refl refl refl (λ t. refl) (λ msg y. refl) refl
+      stat-ok (c .call) lets (λ i is e d. (e, d)) Q.Sta2 (W.Stat V2) (plain-breaks c lets refl Q.Sta2 _ (λ e. rests-is c lets (broke e)) (λ t e. refl) (λ e. refl)) (rests-is c lets accepted) refl refl refl (λ t. refl) (λ msg y. refl) refl
       (omega arith)
   open-ok (call (ask list p)) lets =
       let c : Site = at (call (ask list p)) in
-      starts (c .call) lets Q.List (plain-breaks c lets refl Q.List _ (λ e. rests-is c lets (broke e)) (λ t e. refl) (λ e. refl)) (rests-is c lets accepted) refl refl refl (λ t. refl) refl (omega arith)
+      starts (c .call) lets (λ i is e d. (e, d)) Q.List (plain-breaks c lets refl Q.List _ (λ e. rests-is c lets (broke e)) (λ t e. refl) (λ e. refl)) (rests-is c lets accepted) refl refl refl (λ t. refl) refl (omega arith)
   open-ok (call (ask lis2 p)) lets =
       let c : Site = at (call (ask lis2 p)) in
-      starts (c .call) lets Q.Lis2 (plain-breaks c lets refl Q.Lis2 _ (λ e. rests-is c lets (broke e)) (λ t e. refl) (λ e. refl)) (rests-is c lets accepted) refl refl refl (λ t. refl) refl (omega arith)
+      starts (c .call) lets (λ i is e d. (e, d)) Q.Lis2 (plain-breaks c lets refl Q.Lis2 _ (λ e. rests-is c lets (broke e)) (λ t e. refl) (λ e. refl)) (rests-is c lets accepted) refl refl refl (λ t. refl) refl (omega arith)
   open-ok (call (ask recv p)) lets =
       let c : Site = at (call (ask recv p)) in
-      starts (c .call) lets Q.Recv (plain-breaks c lets refl Q.Recv _ (λ e. rests-is c lets (broke e)) (λ t e. refl) (λ e. refl)) (rests-is c lets accepted) refl refl refl (λ t. refl) refl (omega arith)
+      starts (c .call) lets (λ i is e d. (e, d)) Q.Recv (plain-breaks c lets refl Q.Recv _ (λ e. rests-is c lets (broke e)) (λ t e. refl) (λ e. refl)) (rests-is c lets accepted) refl refl refl (λ t. refl) refl (omega arith)
   open-ok (call (rcv2 p f)) lets =
       let c : Site = at (call (rcv2 p f)) in
       let rq : Request = requestOf (rcv2 p f) in
-      starts (c .call) lets rq (plain-breaks c lets refl rq _ (λ e. rests-is c lets (broke e)) (λ t e. refl) (λ e. refl)) (rests-is c lets accepted) refl refl refl (λ t. refl) refl (omega arith)
+      starts (c .call) lets (λ i is e d. (e, d)) rq (plain-breaks c lets refl rq _ (λ e. rests-is c lets (broke e)) (λ t e. refl) (λ e. refl)) (rests-is c lets accepted) refl refl refl (λ t. refl) refl (omega arith)
   open-ok (call (send p m)) lets =
       let c : Site = at (call (send p m)) in
       let rq : Request = requestOf (send p m) in
-      starts (c .call) lets rq (push-breaks c lets refl rq _ (λ e. rests-is c lets (broke e)) live (λ t e. refl) (λ e. refl) refl) (rests-is c lets accepted) refl refl refl (λ t. refl) refl (omega arith)
+      starts (c .call) lets (λ i is e d. (e, d)) rq (push-breaks c lets refl rq _ (λ e. rests-is c lets (broke e)) live (λ t e. refl) (λ e. refl) refl) (rests-is c lets accepted) refl refl refl (λ t. refl) refl (omega arith)
   open-ok (call (snd2 p m f)) lets =
       let c : Site = at (call (snd2 p m f)) in
       let rq : Request = requestOf (snd2 p m f) in
-      starts (c .call) lets rq (push-breaks c lets refl rq _ (λ e. rests-is c lets (broke e)) live (λ t e. refl) (λ e. refl) refl) (rests-is c lets accepted) refl refl refl (λ t. refl) refl (omega arith)
+      starts (c .call) lets (λ i is e d. (e, d)) rq (push-breaks c lets refl rq _ (λ e. rests-is c lets (broke e)) live (λ t e. refl) (λ e. refl) refl) (rests-is c lets accepted) refl refl refl (λ t. refl) refl (omega arith)
   open-ok (call (chunk x)) lets =
       let c : Site = sending h w s x in
       let moves : Bool → ℕ = λ b. pick b (length (held s)) (s .ses .buf .tail) in
@@ -149,6 +149,17 @@ module _ (h : Host) (w : World) (s : St) (good : Good s) (live : s .ses .ended �
 
 -- ---- every call
 
+composed-none : (q : Call) (n : ℕ) → Composed q n []
+composed-none (call (ask i p)) n = tt
+composed-none (call (rcv2 p f)) n = tt
+composed-none (call (send p m)) n = tt
+composed-none (call (snd2 p m f)) n = tt
+composed-none (call (chunk x)) n = tt
+composed-none (call (done t)) n = refl
+composed-none (call quit) n = refl
+composed-none (nextEntry v) n = refl
+composed-none nextChunk n = refl
+
 -- One call: it ends, as the plain reader does.
 pub call-ok : (h : Host) (w : World) (s : St) (q : Call) → Good s → s .ses .pending ≡ Idle
     → Comes (configOf (s .ses) (h .close)) (h .end) q (held s ++ w .left) (length (held s)) (s .ses .buf .tail) (s .msg) (runCall core h q w (s .ses) (s .rx) (s .msg))
@@ -157,10 +168,10 @@ call-ok h w s q good i = go (refusal (settingOf (s .ses)) q) refl (begins s q go
   where
     go : (o : Option P.Answer) → refusal (settingOf (s .ses)) q ≡ o → Begins s q o
         → Comes (configOf (s .ses) (h .close)) (h .end) q (held s ++ w .left) (length (held s)) (s .ses .buf .tail) (s .msg) (runCall core h q w (s .ses) (s .rx) (s .msg))
-    go none r b = rw (b .1) (open-ok h w s good (b .0) q r)
+    go none r b = rw (b .1) (open-ok h w s good (b .0) q r [] (composed-none q (length (held s))))
     go (some a) r b =
         rw (refused h w s q a good i r)
-        (record { good = good; still = i; config = rw (b .1 .0); same = rw r; heeds = record { asks = tt; pieces = rw r; closes = sym (b .1 .1); windows = tt }; ends = rw r; kept = rw r })
+        (record { good = good; still = i; config = rw (b .1 .0); same = rw r; heeds = record { asks = tt; pieces = rw r; composed = composed-none q (length (held s)); closes = sym (b .1 .1); windows = tt }; ends = rw r; kept = rw r })
 
 -- ---- every list of calls
 
@@ -177,6 +188,7 @@ module _ (h : Host) where
       unread = sym (ap (λ (y : Reply). y .unread) (c .same));
       asks = c .heeds .asks;
       pieces = c .heeds .pieces;
+      composed = c .heeds .composed;
       closes = c .heeds .closes;
       windows = c .heeds .windows;
       ends = c .ends;

@@ -76,7 +76,7 @@ module _ (h : Host) (w : World) (s : St) (x : List ℕ) where
         (message-ok sending live Q.Data (length (held s)) (later sending + 5 * length (left m (next x from)))
         (λ f′ i′ xs′ b′ r′ t′ e′ l′. breaks (omega (arith, length-drop from x)) f′ i′ xs′ b′ r′ t′ e′ (omega arith))
         from part (omega (arith, length-drop from x)) (rw (part-is x from) (take-taken dataMost (drop from x))) refl (xs ++ ps) rest upto
-        (λ f′ i′ t′ l′ y′. go (length (held s)) f′ i′ (xs ++ ps) t′ y′ (λ _. moves) upto l′) f i xs t refl (omega arith) y refl)
+        (λ f′ i′ t′ l′ y′. go (length (held s)) f′ i′ (xs ++ ps) t′ y′ (λ _. moves) upto l′) f i xs t refl (λ a is e d. (e, d)) (omega arith) y refl)
 
     pub data-ok : (m from : ℕ) → length (drop from x) ≤ m → Cuts m from
     data-ok zero from l = data-none zero from (omega arith)

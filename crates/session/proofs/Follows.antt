@@ -20,7 +20,7 @@ use Rattle.session.specs.declared.Phase.the-variants.{Header}
 use Rattle.session.specs.declared.Want.{Want}
 use Rattle.session.specs.declared.Want.the-variants as W
 use Rattle.session.specs.Core.{faultOf, stepOf, core}
-use Rattle.session.specs.Faithful.{Accepted, meetsHeader}
+use Rattle.session.specs.Faithful.{Accepted, Composed, meetsHeader}
 use Rattle.session.specs.Host.{Broken, World, outcomeOf, hasClosed, grantClose, run}
 use Rattle.session.specs.Phases.{wants}
 use Rattle.session.specs.Reports.{faultAnswer, pushFault, writeFault, wroteAt, faultAt, closedOut}
@@ -50,22 +50,22 @@ module _ (c : Site) (lets : LetIn c) where
     config : configOf (started c .ses) (c .host .close) ≡ after (reader c) (c .call)
     config = rw stays
 
-    heeds : (xs : List (List ℕ)) (i : ℕ) (bs : List Broken) → Accepted (all c) xs bs
-        → Heeds (reader c) (c .call) (unread c) (length (held (c .state))) (c .state .ses .buf .tail) (wrote c i xs bs)
-    heeds xs i bs a = record { asks = tt; pieces = a; closes = rw stays; windows = tt }
+    heeds : (xs : List (List ℕ)) (i : ℕ) (bs : List Broken) (is : List ℕ) → Composed (c .call) (length (held (c .state))) is → Accepted (all c) xs bs
+        → Heeds (reader c) (c .call) (unread c) (length (held (c .state))) (c .state .ses .buf .tail) (wrote c i xs bs is)
+    heeds xs i bs is d a = record { asks = tt; pieces = a; composed = d; closes = rw stays; windows = tt }
 
     -- an answer ends the call
     pub told-ok : (f i : ℕ) (xs : List (List ℕ)) (bs : List Broken) (t : St) (a : Answer) → 0 < f → Mid c (rests c (outcomeOf bs)) t → Accepted (all c) xs bs
         → onReport (reader c) (outcomeOf bs) (c .call) ≡ answer (paper (t .rx) (t .msg) a) → Goes c f i xs bs (told t a)
     unfolding plain
-    told-ok f i xs bs t a l x p e =
-        subst (Ok c) (sym (run-told (c .host) (lent c) f (wrote c i xs bs) (st (S.at (t .ses) (t .ses .buf) Idle) (t .rx) (t .msg)) a l))
+    told-ok f i xs bs t a l x p e is d =
+        subst (Ok c) (sym (run-told (c .host) (lent c) f (wrote c i xs bs is) (st (S.at (t .ses) (t .ses .buf) Idle) (t .rx) (t .msg)) a l))
         (record {
           good = good-pending t (x .good) Idle;
           still = refl;
           config = ap (λ (ψ : Frame). configIn ψ (c .host .close)) (x .frame) ∙ config;
           same = rw (program-is c lets (outcomeOf bs) ∙ e, x .same);
-          heeds = heeds xs i bs p;
+          heeds = heeds xs i bs is d p;
           ends = x .place;
           kept = rw (program-is c lets (outcomeOf bs) ∙ e) (x .msg);
         })
@@ -78,13 +78,13 @@ module _ (c : Site) (lets : LetIn c) where
         → ((rx msg : List ℕ) → paper rx msg (pick lost A.Closed (faultAnswer (faultOf (c .host .end)))) ≡ P.broken (endOf (c .host .end) (outcomeOf bs) (c .call)))
         → meetsHeader (onReport (reader c) (outcomeOf bs) (c .call)) ≡ true
         → Goes c f i xs bs (readOn t (Header x) lost)
-    header-ok f i xs bs t x lost live l m p e z meets =
+    header-ok f i xs bs t x lost live l m p e z meets is d =
         let φ : Frame = frameOf (started c .ses) in
         let o : Out = readOn t (Header x) lost in
         let G : List ℕ → Result = λ y. plain (c .state .ses .capacity) (program (reader c) (outcomeOf bs) (c .call)) (held t ++ y) in
-        reading-ok (c .host) (reader c) (c .call) (unread c) (length (held (c .state))) (c .state .ses .buf .tail) (c .state .msg) φ lost (outcomeOf bs) live refl config z f (wrote c i xs bs) (held t) o
+        reading-ok (c .host) (reader c) (c .call) (unread c) (length (held (c .state))) (c .state .ses .buf .tail) (c .state .msg) φ lost (outcomeOf bs) live refl config z f (wrote c i xs bs is) (held t) o
         (omega arith) refl
-        (ap (λ (y : List ℕ). y ++ c .world .left) (sym (m .same))) tt (heeds xs i bs p)
+        (ap (λ (y : List ℕ). y ++ c .world .left) (sym (m .same))) tt (heeds xs i bs is d p)
         (kept-eq φ lost G (at t (Header x)) o
         (λ y. ap (λ (k : Prog). plain (c .state .ses .capacity) k (held t ++ y)) (program-is c lets (outcomeOf bs)) ∙ e (t .msg) (held t ++ y)
         ∙ ap (λ (ψ : Frame). plain (ψ .capacity) (restOf (ψ .capacity) (t .msg) (Header x)) (held t ++ y)) (sym (m .frame)))
@@ -120,8 +120,8 @@ module _ (c : Site) (lets : LetIn c) where
       → Accepted (all c) xs bs → onReport (reader c) (outcomeOf bs) (c .call) ≡ answer (pick failed (P.broken (error code)) (closing (c .host .close)))
       → Goes c f i xs bs (closingOut t failed code)
   unfolding run plain paper wroteAt faultAt
-  close-ok zero i xs bs failed code t live quits l x p e = absurd (omega arith)
-  close-ok (suc f) i xs bs failed code t live quits l x p e = go (c .host .close) refl
+  close-ok zero i xs bs failed code t live quits l x p e is d = absurd (omega arith)
+  close-ok (suc f) i xs bs failed code t live quits l x p e is d = go (c .host .close) refl
     where
       t₁ : St
       t₁ = st (S.at (t .ses) (t .ses .buf) (Closing failed code)) (t .rx) (t .msg)
@@ -130,7 +130,7 @@ module _ (c : Site) (lets : LetIn c) where
       x₁ = mid-pending c t (Closing failed code) x
 
       w₁ : World
-      w₁ = hasClosed (wrote c i xs bs)
+      w₁ = hasClosed (wrote c i xs bs is)
 
       -- the host reported of the close what a says
       over : (a : Answer) → closing (c .host .close) ≡ paper (t .rx) (t .msg) a
@@ -144,7 +144,7 @@ module _ (c : Site) (lets : LetIn c) where
             still = refl;
             config = rw quits (ap (λ (ψ : Frame). configIn (ended ψ) (c .host .close)) (x .frame));
             same = rw (program-is c lets (outcomeOf bs) ∙ e ∙ ap answer (told failed), x .same);
-            heeds = record { asks = tt; pieces = p; closes = rw (quits, live); windows = tt };
+            heeds = record { asks = tt; pieces = p; composed = d; closes = rw (quits, live); windows = tt };
             ends = x .place;
             kept = rw (program-is c lets (outcomeOf bs) ∙ e) (x .msg);
           })
@@ -154,7 +154,7 @@ module _ (c : Site) (lets : LetIn c) where
           told false = z
 
       go : (z : Report) → c .host .close ≡ z
-          → Ok c (grantClose core (c .host) (lent c) (λ w′ s′. run core (c .host) (lent c) f w′ s′) (wrote c i xs bs) (stepOf (closingOut t failed code)) z)
+          → Ok c (grantClose core (c .host) (lent c) (λ w′ s′. run core (c .host) (lent c) f w′ s′) (wrote c i xs bs is) (stepOf (closingOut t failed code)) z)
       go accepted z =
           rw (wrote-step t₁ (length (lent c)) (x₁ .good) (mid-runs c t₁ x₁ live) (mid-lends c t₁ x₁) (Closing failed code) refl refl (lent c) refl)
           (over A.Done (ap closing z))

@@ -30,7 +30,7 @@ use Rattle.session.specs.declared.Reply.the-variants as R
 use Rattle.session.specs.declared.Session.{Session}
 use Rattle.session.specs.Calls.{isIdle}
 use Rattle.session.specs.Core.{faultOf, stepOf, core}
-use Rattle.session.specs.Faithful.{AtNeed, Brought, AllAtNeeds, callPieces, Accepted, closesFor, restsAt, tailAfter, windowAt, Placed, textOf, keeping}
+use Rattle.session.specs.Faithful.{AtNeed, Brought, AllAtNeeds, callPieces, Accepted, closesFor, Composed, restsAt, tailAfter, windowAt, Placed, textOf, keeping}
 use Rattle.session.specs.Host.{Step, Host, Ask, World, outcomeOf, hasRead, counted, filling, windowed, lentOf, Run, over-with, unended, grantRead, granted, run}
 use Rattle.session.specs.Phases.{wants}
 use Rattle.session.specs.Reports.{reportRefusal, refusalAt, readIn, readAt, reportRead, wroteAt, reportWrote, faultAnswer, faultAt, reportFault}
@@ -58,6 +58,7 @@ configOf s z = configIn (frameOf s) z
 pub record Heeds (g : Config) (q : Call) (v : List ℕ) (n z : ℕ) (w : World) : Type 0 where
   pub asks : AllAtNeeds g (outcomeOf (w .broken)) q v (w .pieces) (w .asks)
   pub pieces : Accepted (callPieces g q n) (w .pieces) (w .broken)
+  pub composed : Composed q n (w .composed)
   pub closes : w .closes ≡ closesFor (isQuit q) (g .setting .ended) (w .pieces)
   pub windows : Placed (g .capacity) (restsAt g (outcomeOf (w .broken)) q n z) (w .asks)
 
@@ -184,7 +185,7 @@ module _ (h : Host) (g : Config) (q : Call) (v : List ℕ) (n z : ℕ) (m : List
 
       read-heeds : (j : ℕ) → Heeds g q v n z (hasRead j (ask j) w)
       read-heeds j =
-          record { asks = (at-need j, (brought, heeds .asks)); pieces = heeds .pieces; closes = heeds .closes; windows = (window, heeds .windows) }
+          record { asks = (at-need j, (brought, heeds .asks)); pieces = heeds .pieces; composed = heeds .composed; closes = heeds .closes; windows = (window, heeds .windows) }
 
       -- the window, overwritten: y, and then any bytes
       module _ (f : ℕ → ℕ) (y : List ℕ) (l : length y ≤ len) where

@@ -26,7 +26,7 @@ use Rattle.session.specs.declared.Reply.{Reply}
 use Rattle.session.specs.declared.Reply.the-variants as R
 use Rattle.session.specs.declared.Session.{Session}
 use Rattle.session.specs.Core.{faultOf, showOf, stepOf, core}
-use Rattle.session.specs.Faithful.{piecesOf}
+use Rattle.session.specs.Faithful.{piecesOf, Composed}
 use Rattle.session.specs.Host.{Step, World, Run, grantWrite, granted, run}
 use Rattle.session.specs.Reports.{wroteAt, faultAt}
 use Rattle.session.specs.State.{St, st, Out, out, beside, at, Good}
@@ -40,13 +40,17 @@ use Rattle.session.proofs.Turns.{held, Frame}
 use Rattle.session.proofs.Writes.{bytesIn, apart-pieces, Sent, pieces-sent, piece-at, drop-rest, wrote-last, wrote-more, placed-good, placed-held, placed-there, placed-inside, message-whole, message-apart, pieces-whole, pieces-apart, pieces-bare}
 
 module _ (c : Site) where
+  -- a piece behind the held bytes may be added
+  abbrev pub Behind : Type 0
+  Behind = (i : ℕ) (is : List ℕ) → i ≡ length (held (c .state)) → Composed (c .call) (length (held (c .state))) is → Composed (c .call) (length (held (c .state))) (i ∷ is)
+
   module _ (live : c .state .ses .ended ≡ false) (rq : Request) (z n : ℕ) (breaks : Breaks c z n rq) where
     -- the host is handed a piece b
     write-ok : (f i : ℕ) (xs rest : List (List ℕ)) (b : List ℕ) (t : St) (o : Reply) (from k : ℕ) → n ≤ f → Mid c z t
         → t .ses .pending ≡ Writing rq from k → all c ≡ xs ++ b ∷ rest
         → Goes c f (i + 1) (xs ++ b ∷ []) [] (wroteOn t rq from k (lent c))
-        → (r : Report)
-        → Ok c (grantWrite core (c .host) (lent c) (λ w′ s′. run core (c .host) (lent c) f w′ s′) (wrote c i xs [])
+        → (r : Report) (is : List ℕ) → Composed (c .call) (length (held (c .state))) is
+        → Ok c (grantWrite core (c .host) (lent c) (λ w′ s′. run core (c .host) (lent c) f w′ s′) (wrote c i xs [] is)
         (stepOf (record { st = t; reply = o })) b r)
     unfolding wroteAt faultAt
     write-ok f i xs rest b t o from k l x pend e on accepted =
@@ -79,16 +83,16 @@ module _ (c : Site) where
           → ((t′ : St) → Mid c z t′ → Goes c f (i + 1) (xs ++ bytesIn part p ∷ []) [] (wroteOn t′ rq from (k + 1) (lent c)))
           → Goes c (suc f) i xs [] (out (sendPiece (t .ses) rq from (length part) k) (t .rx) (t .msg))
       unfolding run
-      piece-ok f i k xs t p ps l x at-k e next =
+      piece-ok f i k xs t p ps l x at-k e next is d =
           let t₁ : St = st (at (t .ses) (t .ses .buf) (Writing rq from (k + 1))) (t .rx) (t .msg) in
           let x₁ : Mid c z t₁ = mid-pending c t (Writing rq from (k + 1)) x in
           let o : Reply = pieceReply from (length part) p in
           rw (piece-at rq (length part) k (p ∷ ps) at-k)
           (subst (Ok c)
-          (sym (granted-piece (λ w′ s′. run core (c .host) (lent c) f w′ s′) (wrote c i xs []) (stepOf (record { st = t₁; reply = o })) p))
+          (sym (granted-piece (λ w′ s′. run core (c .host) (lent c) f w′ s′) (wrote c i xs [] is) (stepOf (record { st = t₁; reply = o })) p))
           (write-ok f i xs (map (bytesIn part) ps ++ todo) (bytesIn part p) t₁ o from (k + 1) l x₁ refl
           (upto ∙ ap (λ (y : List (List ℕ)). y ++ todo) e ∙ append-assoc xs (bytesIn part p ∷ map (bytesIn part) ps) todo)
-          (next t₁ x₁) (c .host .writes i)))
+          (next t₁ x₁) (c .host .writes i) is d))
 
       -- a piece was accepted, and ps are still to go
       pieces-ok : (ps : List Piece) (m f i k : ℕ) (xs : List (List ℕ)) (t : St) → Sent m ps → n + m ≤ f → 0 < k → Mid c z t
@@ -119,15 +123,15 @@ module _ (c : Site) where
           (e₁ ∙ sym (append-snoc xs (bytesIn part p) (map (bytesIn part) ps))))
 
       -- .. or whole, from the free end of the buffer
-      whole-ok : {y : ℕ} (f i : ℕ) (xs : List (List ℕ)) (t : St) (m : List ℕ) → length (held (c .state)) ≡ z → n < f → Mid c y t → length (held t) + length m ≤ t .ses .capacity
+      whole-ok : {y : ℕ} (f i : ℕ) (xs : List (List ℕ)) (t : St) (m : List ℕ) → length (held (c .state)) ≡ z → Behind → n < f → Mid c y t → length (held t) + length m ≤ t .ses .capacity
           → ys ≡ xs ++ m ∷ []
           → Goes c f i xs [] (record {
             st = st (at (t .ses) ((tidied t) .ses .buf) (Writing rq from 0)) (over ((tidied t) .rx) ((tidied t) .ses .buf .tail) m) (t .msg);
             reply = R.WriteRx ((tidied t) .ses .buf .tail) (length m);
           })
       unfolding run wroteOn
-      whole-ok zero i xs t m front l x fit e = absurd (omega arith)
-      whole-ok (suc f) i xs t m front l x fit e =
+      whole-ok zero i xs t m front behind l x fit e is d = absurd (omega arith)
+      whole-ok (suc f) i xs t m front behind l x fit e is d =
           let t₁ : St = st (at (t .ses) ((tidied t) .ses .buf) (Writing rq from 0)) (over ((tidied t) .rx) ((tidied t) .ses .buf .tail) m) (t .msg) in
           let x₁ : Mid c z t₁ = record {
             good = placed-good t (x .good) m fit (Writing rq from 0);
@@ -139,12 +143,13 @@ module _ (c : Site) where
           rw (le-leb _ _ (placed-inside t (x .good) m fit), placed-there t (x .good) m fit)
           (write-ok f i xs todo m t₁ (R.WriteRx ((tidied t) .ses .buf .tail) (length m)) from 0 (omega arith) x₁ refl
           (upto ∙ ap (λ (y : List (List ℕ)). y ++ todo) e ∙ append-assoc xs (m ∷ []) todo)
-          (rw (sym e) (on f (i + 1) t₁ (omega arith) x₁)) (c .host .writes i))
+          (rw (sym e) (on f (i + 1) t₁ (omega arith) x₁)) (c .host .writes i) ((tidied t) .ses .buf .tail ∷ is)
+          (behind ((tidied t) .ses .buf .tail) is (tidied-tail t (x .good) ∙ ap length (x .same)) d))
 
-      pub message-ok : {y : ℕ} (f i : ℕ) (xs : List (List ℕ)) (t : St) → length (held (c .state)) ≡ z → n + 5 ≤ f → Mid c y t
+      pub message-ok : {y : ℕ} (f i : ℕ) (xs : List (List ℕ)) (t : St) → length (held (c .state)) ≡ z → Behind → n + 5 ≤ f → Mid c y t
           → ys ≡ xs ++ pieces published (free c) (meant rq part)
           → Goes c f i xs [] (beside (messageOut (t .ses) (t .rx) rq from part) (t .msg))
-      message-ok f i xs t front l x e = go (decLe (length m) (free c))
+      message-ok f i xs t front behind l x e = go (decLe (length m) (free c))
         where
           m : List ℕ
           m = bytesOfRequest published (meant rq part)
@@ -160,7 +165,7 @@ module _ (c : Site) where
               let within = held-length (t .rx) (t .ses .buf) (sound-of t (x .good)) in
               let room : length (held t) + length m ≤ t .ses .capacity = omega (arith, x .good, size, count) in
               rw (message-whole t (x .good) rq from part room)
-              (whole-ok f i xs t m front (omega arith) x room (e ∙ ap (λ (y : List (List ℕ)). xs ++ y) (pieces-whole (free c) (meant rq part) fit)))
+              (whole-ok f i xs t m front behind (omega arith) x room (e ∙ ap (λ (y : List (List ℕ)). xs ++ y) (pieces-whole (free c) (meant rq part) fit)))
           go (no wide) =
               let full : t .ses .capacity < length (held t) + length m = omega (arith, size, count) in
               rw (message-apart t (x .good) rq from part full)
@@ -170,11 +175,11 @@ module _ (c : Site) where
   -- a call of one message: with a path, or a header only
   module _ (lets : LetIn c) (good : Good (c .state)) (live : c .state .ses .ended ≡ false) (rq : Request) (z : ℕ) (breaks : Breaks c z (later c) rq)
       (on : Follows c lets z rq) where
-    pub path-ok : (f : ℕ) → length (held (c .state)) ≡ z → messages (c .call) ≡ meant rq (lent c) ∷ [] → carried rq 0 (lent c) ≡ lent c → later c + 5 ≤ f
+    pub path-ok : (f : ℕ) → length (held (c .state)) ≡ z → Behind → messages (c .call) ≡ meant rq (lent c) ∷ [] → carried rq 0 (lent c) ≡ lent c → later c + 5 ≤ f
         → Goes c f (c .world .writes) [] [] (beside (messageOut (started c .ses) (c .state .rx) rq 0 (lent c)) (c .state .msg))
-    path-ok f front one carries l =
+    path-ok f front behind one carries l =
         message-ok live rq z (later c) breaks 0 (lent c) (omega arith) (take-length (lent c)) carries (all c) [] (sym (append-nil (all c))) on f
-        (c .world .writes) [] (started c) front l (mid-started c good)
+        (c .world .writes) [] (started c) front behind l (mid-started c good)
         (all-is c lets ∙ ap (piecesOf published (free c)) one ∙ append-nil (pieces published (free c) (meant rq (lent c))))
 
     pub bare-ok : (f : ℕ) → c .state .ses .buf .tail ≡ z → messages (c .call) ≡ meant rq [] ∷ [] → messageOf published (meant rq []) .parts ≡ [] → carried rq 0 (lent c) ≡ []

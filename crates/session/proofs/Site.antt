@@ -15,7 +15,7 @@ use Rattle.session.specs.declared.Pending.{Pending}
 use Rattle.session.specs.declared.Session.{Session}
 use Rattle.session.specs.Calls.{settingOf}
 use Rattle.session.specs.Core.{stepOf, core}
-use Rattle.session.specs.Faithful.{piecesOf, unlessPieces, callPieces, compacts, unlessMoved, restsAt}
+use Rattle.session.specs.Faithful.{piecesOf, unlessPieces, callPieces, Composed, compacts, unlessMoved, restsAt}
 use Rattle.session.specs.Host.{Host, Broken, World, lentOf, Run, run}
 use Rattle.session.specs.State.{St, st, Out, at, begun, Good}
 use Rattle.session.specs.Steps.{tidied}
@@ -59,13 +59,13 @@ module _ (c : Site) where
   abbrev pub Ok : Run Session → Type 0
   Ok o = Comes reader (c .host .end) (c .call) unread (length (held (c .state))) (c .state .ses .buf .tail) (c .state .msg) o
 
-  -- the world after i writes in all, where xs of the call's pieces were accepted, and bs came to a fault
-  abbrev pub wrote : ℕ → List (List ℕ) → List Broken → World
-  wrote i xs bs = record { left = c .world .left; reads = c .world .reads; writes = i; asks = []; pieces = xs; broken = bs; closes = [] }
+  -- the world after i writes in all, where xs of the call's pieces were accepted, bs came to a fault, and pieces were composed at the places is
+  abbrev pub wrote : ℕ → List (List ℕ) → List Broken → List ℕ → World
+  wrote i xs bs is = record { left = c .world .left; reads = c .world .reads; writes = i; asks = []; pieces = xs; broken = bs; composed = is; closes = [] }
 
   -- from there, with f steps left, the call comes to what the plain reader does, if the session's last step was o
   abbrev pub Goes : ℕ → ℕ → List (List ℕ) → List Broken → Out → Type 0
-  Goes f i xs bs o = Ok (run core (c .host) lent f (wrote i xs bs) (stepOf o))
+  Goes f i xs bs o = (is : List ℕ) → Composed (c .call) (length (held (c .state))) is → Ok (run core (c .host) lent f (wrote i xs bs is) (stepOf o))
 
   -- the steps that what follows a write may take: a read for each byte to come, the end error, the answer; or the close and the answer
   abbrev pub later : ℕ

@@ -105,6 +105,25 @@ abbrev pub Placed : ℕ → ℕ → List Ask → Type 0
 Placed c t [] = Unit {0}
 Placed c t (a ∷ more) = (a .at ≡ windowAt c (length (a .holds)) (tailAfter t more)) × Placed c t more
 
+-- ---- messages in the free end
+
+abbrev pub AllAt : ℕ → List ℕ → Type 0
+AllAt n [] = Unit {0}
+AllAt n (i ∷ is) = (i ≡ n) × AllAt n is
+
+-- "After compaction, one that fits is composed in the free end of the receive buffer, from tail on": behind the n bytes held; "DONE and
+-- QUIT are header only", by value
+abbrev pub Composed : Call → ℕ → List ℕ → Type 0
+Composed (call (ask i p)) n is = AllAt n is
+Composed (call (rcv2 p f)) n is = AllAt n is
+Composed (call (send p m)) n is = AllAt n is
+Composed (call (snd2 p m f)) n is = AllAt n is
+Composed (call (chunk x)) n is = AllAt n is
+Composed (call (done t)) n is = is ≡ []
+Composed (call quit) n is = is ≡ []
+Composed (nextEntry v) n is = is ≡ []
+Composed nextChunk n is = is ≡ []
+
 -- ---- the message buffer
 
 -- "The message buffer's first m bytes become the text once those have come, even if the rest never does": the text of a FAIL at the front
@@ -134,6 +153,7 @@ pub record AsReader (g : Config) (e : End) (q : Call) (v : List ℕ) (x : Entry)
   pub unread : x .unread ≡ plainCall g e (outcomeOf (x .broken)) q v .unread
   pub asks : AllAtNeeds g (outcomeOf (x .broken)) q v (x .pieces) (x .asks)
   pub pieces : Accepted (callPieces g q (length (x .held))) (x .pieces) (x .broken)
+  pub composed : Composed q (length (x .held)) (x .composed)
   pub closes : x .closes ≡ closesFor (isQuit q) (g .setting .ended) (x .pieces)
   pub windows : Placed (g .capacity) (restsAt g (outcomeOf (x .broken)) q (length (x .held)) (x .tail)) (x .asks)
   pub ends : x .ends ≡ tailAfter (restsAt g (outcomeOf (x .broken)) q (length (x .held)) (x .tail)) (x .asks)

@@ -66,7 +66,8 @@ pub record Broken : Type 0 where
   pub before : List (List ℕ)
 
 -- Bytes still to come; reads and writes so far. Of this call: the reads asked, the last first; the pieces accepted, in order; the writes
--- that came to a fault, the last first; for each close asked, the pieces accepted before it.
+-- that came to a fault, the last first; for each piece offered from the receive buffer, where it begins there; for each close asked, the
+-- pieces accepted before it.
 pub record World : Type 0 where
   pub left : List ℕ
   pub reads : ℕ
@@ -74,6 +75,7 @@ pub record World : Type 0 where
   pub asks : List Ask
   pub pieces : List (List ℕ)
   pub broken : List Broken
+  pub composed : List ℕ
   pub closes : List (List (List ℕ))
 
 -- what was reported of a call's writes: that all were accepted, or a fault
@@ -82,23 +84,27 @@ outcomeOf [] = accepted
 outcomeOf (b ∷ bs) = broke (b .fault)
 
 abbrev pub atStart : List ℕ → World
-atStart incoming = record { left = incoming; reads = 0; writes = 0; asks = []; pieces = []; broken = []; closes = [] }
+atStart incoming = record { left = incoming; reads = 0; writes = 0; asks = []; pieces = []; broken = []; composed = []; closes = [] }
 
 abbrev pub newCall : World → World
-newCall w = record { left = w .left; reads = w .reads; writes = w .writes; asks = []; pieces = []; broken = []; closes = [] }
+newCall w = record { left = w .left; reads = w .reads; writes = w .writes; asks = []; pieces = []; broken = []; composed = []; closes = [] }
 
 -- n of the bytes to come are read, where the engine asked for a read
 abbrev pub hasRead : ℕ → Ask → World → World
-hasRead n a w = record { left = drop n (w .left); reads = w .reads + 1; writes = w .writes; asks = a ∷ w .asks; pieces = w .pieces; broken = w .broken; closes = w .closes }
+hasRead n a w = record { left = drop n (w .left); reads = w .reads + 1; writes = w .writes; asks = a ∷ w .asks; pieces = w .pieces; broken = w .broken; composed = w .composed; closes = w .closes }
 
 abbrev pub hasWritten : List ℕ → World → World
-hasWritten b w = record { left = w .left; reads = w .reads; writes = w .writes + 1; asks = w .asks; pieces = w .pieces ++ b ∷ []; broken = w .broken; closes = w .closes }
+hasWritten b w = record { left = w .left; reads = w .reads; writes = w .writes + 1; asks = w .asks; pieces = w .pieces ++ b ∷ []; broken = w .broken; composed = w .composed; closes = w .closes }
 
 abbrev pub hasBroken : List ℕ → End → World → World
-hasBroken b e w = record { left = w .left; reads = w .reads; writes = w .writes + 1; asks = w .asks; pieces = w .pieces; broken = record { piece = b; fault = e; before = w .pieces } ∷ w .broken; closes = w .closes }
+hasBroken b e w = record { left = w .left; reads = w .reads; writes = w .writes + 1; asks = w .asks; pieces = w .pieces; broken = record { piece = b; fault = e; before = w .pieces } ∷ w .broken; composed = w .composed; closes = w .closes }
+
+-- a piece is offered that begins at i in the receive buffer
+abbrev pub composing : ℕ → World → World
+composing i w = record { left = w .left; reads = w .reads; writes = w .writes; asks = w .asks; pieces = w .pieces; broken = w .broken; composed = i ∷ w .composed; closes = w .closes }
 
 abbrev pub hasClosed : World → World
-hasClosed w = record { left = w .left; reads = w .reads; writes = w .writes; asks = w .asks; pieces = w .pieces; broken = w .broken; closes = w .pieces ∷ w .closes }
+hasClosed w = record { left = w .left; reads = w .reads; writes = w .writes; asks = w .asks; pieces = w .pieces; broken = w .broken; composed = w .composed; closes = w .pieces ∷ w .closes }
 
 -- a count from one to the smaller of the window and what is left
 abbrev pub counted : ℕ → ℕ → ℕ → ℕ
@@ -155,7 +161,7 @@ module _ {X : Type 0} (E : Engine X) (h : Host) (lent : List ℕ) (k : World →
   granted w s (read at len) =
       pick (ltb 0 len && leb (at + len) (length (s .rx))) (grantRead w s at len (w .left)) unended
   granted w s (writeRx at len) =
-      pick (leb (at + len) (length (s .rx))) (grantWrite w s (take len (drop at (s .rx))) (h .writes (w .writes))) unended
+      pick (leb (at + len) (length (s .rx))) (grantWrite (composing at w) s (take len (drop at (s .rx))) (h .writes (w .writes))) unended
   granted w s (writeLent at len) =
       pick (leb (at + len) (length lent)) (grantWrite w s (take len (drop at lent)) (h .writes (w .writes))) unended
   granted w s (writeBytes b) = grantWrite w s b (h .writes (w .writes))
@@ -183,6 +189,7 @@ pub record Entry : Type 0 where
   pub asks : List Ask
   pub pieces : List (List ℕ)
   pub broken : List Broken
+  pub composed : List ℕ
   pub closes : List (List (List ℕ))
   -- the bytes held and still to come, tail and the message buffer when it was over
   pub unread : List ℕ
@@ -191,7 +198,7 @@ pub record Entry : Type 0 where
 
 abbrev pub onRun : {X : Type 0} → Engine X → (held : List ℕ) → (tail : ℕ) → (msg : List ℕ) → (World → X → List ℕ → List ℕ → List Entry) → Run X → List Entry
 onRun E held tail msg k (over-with x rx msg′ a w) =
-    record { held = held; tail = tail; msg = msg; answer = a; asks = w .asks; pieces = w .pieces; broken = w .broken; closes = w .closes; unread = E .holds x rx ++ w .left; ends = E .tail x; kept = msg′ } ∷ k w x rx msg′
+    record { held = held; tail = tail; msg = msg; answer = a; asks = w .asks; pieces = w .pieces; broken = w .broken; composed = w .composed; closes = w .closes; unread = E .holds x rx ++ w .left; ends = E .tail x; kept = msg′ } ∷ k w x rx msg′
 onRun E held tail msg k unended = []
 
 -- a list of calls; the log ends early where a call does not end
