@@ -104,10 +104,12 @@ TEXT
 
 A long copy by the processor's string move counts an instruction for each byte, one in wider moves far fewer: compare the large reads and
 the composed push by their times.
+A stat takes more instructions here and less time: its three crossings test the record each time, and the path is looked through for a NUL
+and copied in short loops, where 000 calls wide copies of the C library.
 
 ## Time
 
-The shortest of twelve runs of each side, in turn. On busy cores the ratio of one row has moved by a factor of two between two runs of this
+The shortest of sixty runs of each side, in turn. On busy cores the ratio of one row has moved by a factor of two between two runs of this
 script, so these are worth something only from idle cores; the instructions repeat exactly.
 
 TEXT

@@ -63,7 +63,7 @@ fn main() {
         ["differences"] => differences::print(),
         ["record", count, seed] => record::print(number(count), number(seed)),
         ["replay", path] => replay::run(path),
-        ["bench"] => bench::table(12),
+        ["bench"] => bench::table(60),
         ["bench", name, side] => bench::once(name, side, 100),
         ["bench", name, side, percent] => bench::once(name, side, number(percent) as usize),
         _ => {
