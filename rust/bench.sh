@@ -72,6 +72,25 @@ library() {
   fi
 }
 
+# The times of five processes: of each row the one with the middle ratio, and the least and the greatest ratio.
+times() {
+  local i
+  for i in 1 2 3 4 5; do $oracle bench; done | awk -F' *[|] *' '
+    $2 == "work" || $2 ~ /^-/ {next}
+    !($2 in seen) {order[++rows] = $2}
+    {line[$2, ++seen[$2]] = $3 " " $4 " " $5 " " $6}
+    END {
+      print "| work | 000, ms | here, ms | here / 000 | least | greatest | channel alone, ms |\n|---|---|---|---|---|---|---|"
+      for (r = 1; r <= rows; r++) {
+        n = seen[order[r]]
+        for (i = 1; i <= n; i++) {split(line[order[r], i], c, " "); ratio[i] = c[3] + 0; of[i] = i}
+        for (i = 2; i <= n; i++) for (j = i; j > 1 && ratio[of[j]] < ratio[of[j - 1]]; j--) {t = of[j]; of[j] = of[j - 1]; of[j - 1] = t}
+        split(line[order[r], of[int((n + 1) / 2)]], c, " ")
+        printf "| %s | %s | %s | %s | %.2f | %.2f | %s |\n", order[r], c[1], c[2], c[3], ratio[of[1]], ratio[of[n]], c[4]
+      }
+    }'
+}
+
 page=../docs/BENCHMARKS.md
 {
   cat <<'TEXT'
@@ -109,11 +128,12 @@ and copied in short loops, where 000 calls wide copies of the C library.
 
 ## Time
 
-The shortest of sixty runs of each side, in turn. On busy cores the ratio of one row has moved by a factor of two between two runs of this
-script, so these are worth something only from idle cores; the instructions repeat exactly.
+The shortest of sixty runs of each side, in turn, by each of five processes: of the five, the one with the middle ratio, and the least and
+the greatest ratio (the buffers lie elsewhere in each process). On busy cores the ratio of one row has moved by a factor of two between two
+runs of this script, so these are worth something only from idle cores; the instructions repeat exactly.
 
 TEXT
-  $oracle bench
+  times
   cat <<'TEXT'
 
 ## The library
