@@ -123,8 +123,7 @@ TEXT
 
 A long copy by the processor's string move counts an instruction for each byte, one in wider moves far fewer: compare the large reads and
 the composed push by their times.
-A stat takes more instructions here and less time: its three crossings test the record each time, and the path is looked through for a NUL
-and copied in short loops, where 000 calls wide copies of the C library.
+A stat takes more instructions here and less time: each of its three crossings tests the record, and its path is copied in a short loop.
 
 ## Time
 
