@@ -1,6 +1,6 @@
 """What the prover does not look at: the definitions import no code, no public function has a `requires` or lacks an `ensures`, each
-crate that states something has a must-fail edit, the wrong programs that docs/PROMISES.md names are there, and no file names a path of
-one machine."""
+crate that states something has a must-fail edit, the wrong programs and the theorems that docs/PROMISES.md names are there, no file names a
+path of one machine, and no text for users a paper that they don't have."""
 import pathlib
 import re
 import subprocess
@@ -67,6 +67,15 @@ def named():
                     faults.append(f'docs/PROMISES.md: no wrong program {crate}/{name}')
 
 
+def claimed():
+    """The theorems of the front page are those that the promises name."""
+    front = set(re.findall(r'(?m)^pub ([\w-]+) :', pathlib.Path('crates/claims/proofs/Claims.antt').read_text()))
+    text = re.search(r'(?s)\nNamed there: (.*?)\n\n', pathlib.Path('docs/PROMISES.md').read_text())
+    named_there = set(re.findall(r'`([^`]+)`', text.group(1))) if text else set()
+    for name in sorted(front ^ named_there):
+        faults.append(f'{name}: named in one of crates/claims/proofs/Claims.antt and docs/PROMISES.md only')
+
+
 def paths():
     listed = subprocess.run(['git', 'ls-files'], capture_output=True, text=True, check=True).stdout.split('\n')
     pattern = re.compile(r'(?<![\w.-])/(?:work|root|home|farm)/')
@@ -79,11 +88,22 @@ def paths():
                 faults.append(f'{name}:{number}: a path of one machine')
 
 
+def papers():
+    """What a user meets names no paper that the repository doesn't have."""
+    for folder, pattern in (('rust/yuglasno/src', '**/*.rs'), ('include', '*.h'), ('examples', '*.c')):
+        for path in sorted(pathlib.Path(folder).glob(pattern)):
+            for number, line in enumerate(path.read_text().split('\n'), 1):
+                if re.search(r'[Dd]ocument 01|(?<![\d.,_])000(?!\d)', line):
+                    faults.append(f'{path}:{number}: names a paper that a user does not have')
+
+
 definitions()
 contracts()
 edits()
 named()
+claimed()
 paths()
+papers()
 for fault in faults:
     print('sources:', fault)
 sys.exit(1 if faults else 0)

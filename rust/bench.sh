@@ -96,7 +96,7 @@ page=../docs/BENCHMARKS.md
   cat <<'TEXT'
 # Benchmarks
 
-The library beside 000 (docs/DIFFERENCES.md), on the same scripted bytes, written by `rust/bench.sh`. Both are called from one program,
+The library beside 000 (the Rust of tarigo/libadb that it was carried over from), on the same scripted bytes, written by `rust/bench.sh`. Both are called from one program,
 release build; 000 is compiled with it in one unit, so that its small functions are inlined, and its listing gathers entries in a `Vec`,
 where here each is handed out. The channel is the same code for both; "channel alone" asks it the same reads and writes in a bare loop.
 
@@ -139,5 +139,16 @@ TEXT
 
 TEXT
   library
+  cat <<'TEXT'
+
+## An archive
+
+`transfer archive` from the repository's panel over pipes, beside a plain program that makes, writes, flushes and closes the same files one
+after the other (`rust/archive-bench.sh`). A batch's files are flushed by sixteen threads at the same time, which a journal takes in far
+fewer turns than one after the other; so most of the plain program's waiting is saved. Times of flushes depend on the disk and on who else
+writes to it.
+
+TEXT
+  bash archive-bench.sh
 } >"$page.new"
 mv "$page.new" "$page"

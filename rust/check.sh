@@ -47,6 +47,11 @@ if [ -z "${YUGLASNO_LIB:-}" ]; then
 fi
 
 tests
+if cargo clippy --version >/dev/null 2>&1; then
+  count "nothing newer than rust-version" cargo clippy --offline -q -p yuglasno --all-targets -- -A clippy::all -D clippy::incompatible_msrv
+else
+  echo "rust: clippy is not there: the check of rust-version is left out"
+fi
 RUSTDOCFLAGS="-D warnings" count "documentation" cargo doc --offline -q -p yuglasno --lib --no-deps
 count "build of the boundary program" cargo build --offline -q --release -p yuglasno --bin boundary
 count "exported functions under any input" timeout 300 target/release/boundary 200000 1

@@ -1,10 +1,29 @@
-"""The input and the expected output of the program `heard`, made from SYNC.TXT and file_sync_protocol.h with Python's struct module
-and none of the library's code. `heard.py` compares them with the stored files; `heard.py --write` stores them."""
-import pathlib
-import struct
-import sys
+"""The program `heard` on streams of requests made here from SYNC.TXT and file_sync_protocol.h, with Python's struct module and none of the
+library's code: requests of every kind and length, streams longer than its buffer, in pieces of every size, cut off anywhere and damaged.
+`heard.py --write` stores the program's example.
 
-CRATE = pathlib.Path(__file__).resolve().parent.parent / 'crates' / 'heard'
+The last line is 'N passed, M failed'."""
+import contextlib
+import fcntl
+import itertools
+import os
+import pathlib
+import random
+import socket
+import struct
+import subprocess
+import sys
+import termios
+import threading
+import time
+
+from counted import Count
+
+ROOT = pathlib.Path(__file__).resolve().parent.parent
+CRATE = ROOT / 'crates' / 'heard_requests'
+PROGRAM = ROOT / 'target' / 'bin' / 'heard_requests'
+PATH_MOST = DATA_MOST = 65536
+BUFFER = 131072
 
 
 def path_only(name, path):
@@ -54,28 +73,131 @@ REQUESTS = [
     quit_(),
 ]
 
-# the last request of the stream is damaged: the mode of a SEND with a leading zero is answered 18
+# the longest of each form
+LONGEST = [
+    path_only(b'STAT', b'p' * PATH_MOST),
+    rcv2(b'q' * PATH_MOST, 0),
+    send(b'r' * PATH_MOST, 4294967295),
+    snd2(b's' * PATH_MOST, 4294967295, 4),
+    data(bytes(range(256)) * (DATA_MOST // 256)),
+]
+
+# the mode of a SEND with a leading zero is answered 18
 DAMAGED = b'SEND' + struct.pack('<I', 8) + b'/j,03318'
 
 
-def lines():
-    at = 0
-    for message, fields in REQUESTS:
+def stream(requests):
+    return b''.join(message for message, _ in requests)
+
+
+def lines(requests, length=None, damaged=False):
+    """What is printed of the first `length` bytes: whole requests, then `more` where one is cut off, or 18."""
+    at, length = 0, len(stream(requests)) if length is None else length
+    for message, fields in requests:
+        if at + len(message) > length:
+            break
         yield ','.join([str(at)] + fields)
         at += len(message)
-    yield f'{at},18'
+    if damaged:
+        yield f'{at},18'
+    elif at < length:
+        yield f'{at},more,{length - at}'
+
+
+def printed(*args):
+    return ''.join(line + '\n' for line in lines(*args)).encode()
+
+
+def run(content):
+    return subprocess.run([PROGRAM], input=content, capture_output=True, check=True).stdout
+
+
+def unread(link):
+    """Whether bytes that were sent are not all read yet."""
+    return any(fcntl.ioctl(link, termios.TIOCOUTQ, bytes(4)))
+
+
+def run_in_pieces(content, sizes):
+    """A piece is sent once the one before is read, so that no read brings bytes of two."""
+    ours, theirs = socket.socketpair()
+    with subprocess.Popen([PROGRAM], stdin=theirs, stdout=subprocess.PIPE) as program:
+        theirs.close()
+        told = []
+        reader = threading.Thread(target=lambda: told.append(program.stdout.read()))
+        reader.start()
+        at = 0
+        with contextlib.suppress(BrokenPipeError, ConnectionResetError):
+            while at < len(content):
+                size = next(sizes)
+                ours.sendall(content[at:at + size])
+                at += size
+                while unread(ours) and program.poll() is None:
+                    time.sleep(0)
+        ours.close()
+        reader.join()
+    return told[0]
+
+
+def example(count):
+    made = {'stdin': stream(REQUESTS) + DAMAGED, 'stdout': printed(REQUESTS, None, True)}
+    for name, content in made.items():
+        if '--write' in sys.argv:
+            (CRATE / name).write_bytes(content)
+        count.check((CRATE / name).read_bytes() == content, f'the stored {name} is not the example')
+
+
+def cut_off(count):
+    whole = stream(REQUESTS)
+    for length in range(len(whole) + 1):
+        count.check(run(whole[:length]) == printed(REQUESTS, length), f'cut off at {length}')
+    for requests in ([q] for q in LONGEST):
+        whole = stream(requests)
+        for length in (7, 8, 65535, 65536, 65537, len(whole) - 1, len(whole)):
+            count.check(run(whole[:length]) == printed(requests, length), f'{whole[:4]} cut off at {length}')
+
+
+def long_streams(count):
+    chosen = random.Random(1998)
+    every = [*REQUESTS[:-1], *LONGEST]
+    cases = {'twice the longest': LONGEST * 2, 'many small ones': REQUESTS * 4000, 'at random': [chosen.choice(every) for _ in range(60)]}
+    for name, requests in cases.items():
+        whole = stream(requests)
+        count.check(len(whole) > 2 * BUFFER, f'{name}: {len(whole)} bytes are too few')
+        expected = printed(requests)
+        count.check(run(whole) == expected, f'{name}: whole')
+        count.check(run(whole + DAMAGED) == printed(requests, None, True), f'{name}, then a damaged one')
+        for size in (4096, 65535, 65536, 65537, 100000):
+            count.check(run_in_pieces(whole, itertools.repeat(size)) == expected, f'{name}, in pieces of {size}')
+        for i in range(5):
+            sizes = iter(lambda: chosen.choice((1, 7, 8, 999, 20000, 65536, 131072)), None)
+            length = chosen.randrange(len(whole))
+            count.check(run_in_pieces(whole[:length], sizes) == printed(requests, length), f'{name}, {length} bytes in odd pieces')
+    edges(count)
+
+
+def edges(count):
+    """Requests that end where the buffer ends, and one byte before and behind; and single bytes."""
+    for more in range(-2, 3):
+        requests = [data(b'x' * (DATA_MOST - 8)), data(b'y' * (DATA_MOST - 8 + more)), *REQUESTS, *LONGEST]
+        count.check(run(stream(requests)) == printed(requests), f'the second request ends {more} behind the buffer')
+    requests = [data(b'z' * 3000), *REQUESTS * 3]
+    count.check(run_in_pieces(stream(requests), itertools.repeat(1)) == printed(requests), 'byte by byte')
+
+
+def unreadable(count):
+    folder = os.open('/', os.O_RDONLY)
+    told = subprocess.run([PROGRAM], stdin=folder, capture_output=True).stdout
+    os.close(folder)
+    count.check(told == b'0,13\n', f'a folder for standard input: {told}')
 
 
 def main():
-    stream = b''.join(message for message, _ in REQUESTS) + DAMAGED
-    made = {'stdin': stream, 'stdout': ''.join(line + '\n' for line in lines()).encode()}
-    for name, content in made.items():
-        path = CRATE / name
-        if '--write' in sys.argv:
-            path.write_bytes(content)
-        elif path.read_bytes() != content:
-            sys.exit(f'heard.py: {path.name} is not what the documents say')
-    print(f'heard: {len(REQUESTS)} requests and one refusal, as the documents write them')
+    count = Count('heard')
+    example(count)
+    cut_off(count)
+    long_streams(count)
+    unreadable(count)
+    count.finish()
 
 
 main()

@@ -1,6 +1,6 @@
 -- The exported functions on a stored session are the core's steps on the session, and so the log of every list of calls is the core's.
 -- Assumes nothing.
-use Prim.Native.Nat.{ℕ, _+_, _-_, _≤_, _<_}
+use Prim.Native.Nat.{ℕ, suc, _+_, _-_, _≤_, _<_}
 use mathlib.Core.Bool.{Bool, true, false, true≢false, _&&_, and-eq-true-iff}
 use mathlib.Core.List.{List}
 use mathlib.Core.Path.{_≡_, refl, sym, ap, _∙_, subst}
@@ -21,15 +21,16 @@ use Rattle.record.proofs.Stored.{stored-tail, loaded-stored}
 use Rattle.record.proofs.Words.{word-words}
 use Rattle.recv_buf.specs.RecvBuf.{cursor}
 use Rattle.session.specs.declared.Fault.{Fault}
+use Rattle.session.specs.declared.Fault.the-variants as F
 use Rattle.session.specs.declared.Pending.{Pending}
 use Rattle.session.specs.declared.Pending.the-variants.{Idle, Reading, Writing, Closing}
 use Rattle.session.specs.declared.Reply.{Reply}
 use Rattle.session.specs.declared.Reply.the-variants as R
 use Rattle.session.specs.Core.{faultOf, showOf, begin, core}
-use Rattle.session.specs.Host.{Step, lentOf}
+use Rattle.session.specs.Host.{Spare, Step, lentOf}
 use Rattle.session.specs.Reports.{refusalAt, readIn, readAt, reportRead, reportWrote, reportFault}
 use Rattle.session.specs.State.{St, st, Out, at}
-use Rattle.boundary.specs.Boundary.{callNumber, firstNumber, flagNumber, endKind, endCode, blank, stepOf, exported}
+use Rattle.boundary.specs.Boundary.{callNumber, firstNumber, flagNumber, endKind, endCode, stepOf, exported}
 use Rattle.boundary.specs.Crossing.{Crossed, crossed, isRefusal, back, crossing, requestNumbered, callNumbered, unknownCall, crossStart, staysAt, stays, backRead, crossRead, crossWrote, faultNumbered, crossFault}
 use Rattle.boundary.specs.Told.{replyNumber, replyBytes, outSize}
 use Rattle.boundary.proofs.Heard.{heard-told}
@@ -40,29 +41,29 @@ abbrev pub image : Out → Step (List ℕ)
 image o = record { x = stored (o .st .ses); rx = o .st .rx; msg = o .st .msg; show = showOf (o .st .rx) (o .st .msg) (o .reply) }
 
 -- the call that the numbers select
-called : (s : St) (q : Call)
-    → callNumbered (callNumber q) (firstNumber q) (flagNumber q) s (lentOf q)
-    (requestNumbered (callNumber q) (firstNumber q) (flagNumber q)) (unknownCall s)
-    ≡ begin s q
-called s (call (ask stat p)) = refl
-called s (call (ask sta2 p)) = refl
-called s (call (ask list p)) = refl
-called s (call (ask lis2 p)) = refl
-called s (call (ask recv p)) = refl
-called s (call (rcv2 p f)) = refl
-called s (call (send p m)) = refl
-called s (call (snd2 p m f)) = refl
-called s (call (chunk x)) = refl
-called s (call (done t)) = refl
-called s (call quit) = refl
-called s (nextEntry v1) = refl
-called s (nextEntry v2) = refl
-called s nextChunk = refl
+called : (s : St) (z : Spare) (q : Call)
+    → callNumbered (callNumber q) (firstNumber z q) (flagNumber z q) s (lentOf z q)
+    (requestNumbered (callNumber q) (firstNumber z q) (flagNumber z q)) (unknownCall s)
+    ≡ begin s q (lentOf z q)
+called s z (call (ask stat p)) = refl
+called s z (call (ask sta2 p)) = refl
+called s z (call (ask list p)) = refl
+called s z (call (ask lis2 p)) = refl
+called s z (call (ask recv p)) = refl
+called s z (call (rcv2 p f)) = refl
+called s z (call (send p m)) = refl
+called s z (call (snd2 p m f)) = refl
+called s z (call (chunk x)) = refl
+called s z (call (done t)) = refl
+called s z (call quit) = refl
+called s z (nextEntry v1) = refl
+called s z (nextEntry v2) = refl
+called s z nextChunk = refl
 
 -- the fault that the numbers say
-pub faulted : (e : End) → faultNumbered (endKind e) (endCode e) ≡ faultOf e
-faulted closed = refl
-faulted (error c) = refl
+pub faulted : (z : Spare) (e : End) → faultNumbered (endKind z e) (endCode z e) ≡ faultOf e
+faulted z closed = refl
+faulted z (error c) = ap (λ (b : Bool). pick b F.Closed (F.Error c)) (ne-eqb (suc (z .kind)) 0 (omega arith))
 
 and-four : (a b c d : Bool) → a && b && c && d ≡ true → (a ≡ true) × (b ≡ true) × (c ≡ true) × (d ≡ true)
 and-four true true true true e = (refl, refl, refl, refl)
@@ -79,8 +80,11 @@ loads s n out room k = rw (le-ltb (length out) outSize room, loaded-stored (s .s
 
 -- what is put back, of a step that may be a refusal
 pub back-image : (s : St) (out : List ℕ) → outSize ≤ length out → (o : Out) → Fine (s .ses) o → stepOf (back (stored (s .ses)) out o) ≡ image o
-back-image s out room o f = rw (go (isRefusal (o .reply)) (f .same), heard-told out room (o .st .rx) (o .st .msg) (o .reply) (f .reply))
+back-image s out room o f = rw (go (isRefusal (o .reply)) (f .same), heard-told out room (o .st .ses .capacity) (o .st .ses .lent) (narrow .capacity) (narrow .lent) (o .st .rx) (o .st .msg) (o .reply) (f .reply))
   where
+    narrow : Narrow (o .st .ses)
+    narrow = narrow-of (o .st) (f .inv)
+
     go : (b : Bool) → pick b (s .ses) (o .st .ses) ≡ o .st .ses → pick b (stored (s .ses)) (stored (o .st .ses)) ≡ stored (o .st .ses)
     go true e = ap stored e
     go false e = refl
@@ -139,24 +143,26 @@ module _ (s : St) (x : Inv s) where
   unfolding stored fields
   tail-same = word-words (fields (s .ses)) (fields-wide (s .ses) (narrow-of s x)) 3
 
-  brings : (k : St → Crossed) (o : Out) → k s ≡ back rec blank o → Fine (s .ses) o → stepOf (crossing rec (s .rx) (s .msg) blank k) ≡ image o
-  brings k o e f = ap stepOf (loads s (narrow-of s x) blank (omega arith) k ∙ e) ∙ back-image s blank (omega arith) o f
+  -- the reply in the slice that is lent, what it lends besides being the host's
+  module _ (z : Spare) (room : outSize ≤ length (z .out)) where
+    brings : (k : St → Crossed) (o : Out) → k s ≡ back rec (z .out) o → Fine (s .ses) o → stepOf (crossing rec (s .rx) (s .msg) (z .out) k) ≡ image o
+    brings k o e f = ap stepOf (loads s (narrow-of s x) (z .out) room k ∙ e) ∙ back-image s (z .out) room o f
 
-  pub start-image : (q : Call) → Fine (s .ses) (begin s q) → exported .start rec (s .rx) (s .msg) q ≡ image (begin s q)
-  unfolding crossStart
-  start-image q f = brings _ (begin s q) (ap (back rec blank) (called s q)) f
+    pub start-image : (q : Call) → Fine (s .ses) (begin s q (lentOf z q)) → exported .start rec (s .rx) (s .msg) q z ≡ image (begin s q (lentOf z q))
+    unfolding crossStart
+    start-image q f = brings _ (begin s q (lentOf z q)) (ap (back rec (z .out)) (called s z q)) f
 
-  pub wrote-image : (lent : List ℕ) → Fine (s .ses) (reportWrote s lent) → exported .onWrote rec (s .rx) (s .msg) lent ≡ image (reportWrote s lent)
-  unfolding crossWrote
-  wrote-image lent f = brings _ (reportWrote s lent) refl f
+    pub wrote-image : (lent : List ℕ) → Fine (s .ses) (reportWrote s lent) → exported .onWrote rec (s .rx) (s .msg) lent z ≡ image (reportWrote s lent)
+    unfolding crossWrote
+    wrote-image lent f = brings _ (reportWrote s lent) refl f
 
-  pub fault-image : (lent : List ℕ) (e : End) → Fine (s .ses) (reportFault s (length lent) (faultOf e))
-      → exported .onFault rec (s .rx) (s .msg) lent e ≡ image (reportFault s (length lent) (faultOf e))
-  unfolding crossFault
-  fault-image lent e f =
-      brings _ (reportFault s (length lent) (faultOf e)) (ap (λ (g : Fault). back rec blank (reportFault s (length lent) g)) (faulted e)) f
+    pub fault-image : (lent : List ℕ) (e : End) → Fine (s .ses) (reportFault s (length lent) (faultOf e))
+        → exported .onFault rec (s .rx) (s .msg) lent e z ≡ image (reportFault s (length lent) (faultOf e))
+    unfolding crossFault
+    fault-image lent e f =
+        brings _ (reportFault s (length lent) (faultOf e)) (ap (λ (g : Fault). back rec (z .out) (reportFault s (length lent) g)) (faulted z e)) f
 
-  pub read-image : (lent : List ℕ) (k : ℕ) → Fine (s .ses) (reportRead s (length lent) k)
-      → exported .onRead rec (s .rx) (s .msg) lent k ≡ image (reportRead s (length lent) k)
-  unfolding crossRead
-  read-image lent k f = brings _ (reportRead s (length lent) k) (read-back s blank (length lent) k) f
+    pub read-image : (lent : List ℕ) (k : ℕ) → Fine (s .ses) (reportRead s (length lent) k)
+        → exported .onRead rec (s .rx) (s .msg) lent k z ≡ image (reportRead s (length lent) k)
+    unfolding crossRead
+    read-image lent k f = brings _ (reportRead s (length lent) k) (read-back s (z .out) (length lent) k) f

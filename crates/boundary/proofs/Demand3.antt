@@ -13,7 +13,7 @@ use Rattle.record.specs.Record.{stored, size}
 use Rattle.session.specs.Demand3.{AllWide, reader, Claim}
 use Rattle.session.specs.EveryHost.{CodedHost, EveryHost}
 use Rattle.session.specs.Faithful.{Faithful}
-use Rattle.session.specs.Host.{Host, atStart, logOf}
+use Rattle.session.specs.Host.{World, Host, atStart, logOf}
 use Rattle.session.specs.State.{St}
 use Rattle.session.proofs.Demand3.{claimed, begins, opens, begins-good, begins-empty, begins-faithful}
 use Rattle.boundary.specs.Boundary.{exported, boundary}
@@ -42,14 +42,14 @@ module _ (banner rec rx msg : List ℕ) (placed : length rec ≡ size) (least : 
   opened = rw (opens banner rx msg least room, eq-eqb (length rec) size placed)
 
   -- the log from there is the core's
-  exported-faithful : (h : Host) → CodedHost h → (qs : List Call) → AllWide qs → (incoming : List ℕ) → Bytes incoming
+  exported-faithful : (h : Host) → CodedHost h → ((w : World) → boundary .lends (h .spare w)) → (qs : List Call) → AllWide qs → (incoming : List ℕ) → Bytes incoming
       → (crossOpen rec banner (length rx) (length msg) .number ≡ 0)
       × Faithful (reader banner (length rx) (h .close)) (h .end) qs incoming
       (logOf exported h qs (atStart incoming) (crossOpen rec banner (length rx) (length msg) .rec) rx msg)
-  exported-faithful h z qs v incoming b =
-      rw opened (refl, rw (log-same h z qs (atStart incoming) start inv-start b v) (begins-faithful banner rx msg least room h qs incoming))
+  exported-faithful h z lends qs v incoming b =
+      rw opened (refl, rw (log-same h z lends qs (atStart incoming) start inv-start b v) (begins-faithful banner rx msg least room h qs incoming))
 
--- Any host, also one whose writes and close come to faults: each call of the log is the plain reader's.
+-- Any host, also one whose reads, writes and close come to faults: each call of the log is the plain reader's.
 pub every-host : EveryHost boundary
 every-host banner rec rx msg placed least room wide = exported-faithful banner rec rx msg placed least room wide
 

@@ -22,9 +22,9 @@ use Rattle.format_id.specs.Ids.{idOf}
 use Rattle.format_record.specs.Told.{toldStat, toldStat2}
 use Rattle.format_record.specs.declared.StatV1.{StatV1}
 use Rattle.format_record.specs.declared.StatV2.{StatV2}
-use Rattle.piece.specs.Pieces.{byValue}
-use Rattle.piece.specs.declared.Piece.{Piece}
-use Rattle.piece.specs.declared.Piece.the-variants as P′
+use Rattle.request_piece.specs.Pieces.{byValue}
+use Rattle.request_piece.specs.declared.Piece.{Piece}
+use Rattle.request_piece.specs.declared.Piece.the-variants as P′
 use Rattle.record.specs.Narrow.{U64, NarrowDent, NarrowDent2}
 use Rattle.record.specs.Record.{words}
 use Rattle.record.proofs.Numbers.{signed-back, unsigned-wide, AllU64, at-all}
@@ -42,11 +42,11 @@ use Rattle.boundary.specs.Told.{statWords, statV2Words, answerNumber, an
 use Rattle.boundary.proofs.Narrow.{dent, dent2, Plain, NarrowAnswer, NarrowPiece, NarrowReply}
 
 -- a number in the first of two lists
-number-front : (k off : ℕ) (a rest : List ℕ) → off + k ≤ length a → numberAt k off (a ++ rest) ≡ numberAt k off a
+pub number-front : (k off : ℕ) (a rest : List ℕ) → off + k ≤ length a → numberAt k off (a ++ rest) ≡ numberAt k off a
 number-front k off a rest h = sym (number-in (length a) k off (a ++ rest) (le-leb _ _ h)) ∙ ap (numberAt k off) (take-append-seam a rest)
 
 -- a piece that is passed by value is short
-piece-short : (p : Piece) → NarrowPiece p → length (byValue p) ≤ 10
+pub piece-short : (p : Piece) → NarrowPiece 0 p → length (byValue p) ≤ 10
 piece-short (P′.Header id arg) n = omega (arith, length-append (letters (idOf id)) (word arg), published-sound .four (idOf id), length-bytesOf 4 arg)
 piece-short P′.Lent n = omega arith
 piece-short P′.Comma n = omega arith
@@ -66,12 +66,12 @@ module _ (out : List ℕ) (size : outSize ≤ length out) where
   abbrev put-words : List ℕ → List ℕ
   put-words ns = put out 0 (words ns)
 
-  put-front : (m : List ℕ) → length m ≤ outSize → put out 0 m ≡ m ++ drop (length m) out
+  pub put-front : (m : List ℕ) → length m ≤ outSize → put out 0 m ≡ m ++ drop (length m) out
   unfolding over
   put-front m h = put-in out 0 m (omega arith) ∙ rw zero-add
 
   -- the i-th of the numbers that were put
-  at-words : (ns : List ℕ) → AllU64 ns → length ns ≤ 14 → (i : ℕ) → ltb i (length ns) ≡ true → at (put-words ns) i ≡ getD ns i 0
+  pub at-words : (ns : List ℕ) → AllU64 ns → length ns ≤ 14 → (i : ℕ) → ltb i (length ns) ≡ true → at (put-words ns) i ≡ getD ns i 0
   at-words ns h l i e =
       let n = length-words ns in
       let b = ltb-true i (length ns) e in
@@ -83,7 +83,7 @@ module _ (out : List ℕ) (size : outSize ≤ length out) where
       let w = at-words (k ∷ i ∷ n ∷ statWords s) (omega arith) (omega arith) in
       rw (w 3 refl, w 4 refl, w 5 refl)
 
-  wide2 : (s : StatV2) (n : ℕ) → NarrowDent2 (dent2 s n) → AllU64 (statV2Words s)
+  pub wide2 : (s : StatV2) (n : ℕ) → NarrowDent2 (dent2 s n) → AllU64 (statV2Words s)
   wide2 s n h =
       let x = unsigned-wide (s .atime) (h .atime) in
       let y = unsigned-wide (s .mtime) (h .mtime) in
@@ -129,41 +129,41 @@ module _ (out : List ℕ) (size : outSize ≤ length out) where
             ne-eqb n 17 (omega arith),
           )
 
-  answer-told : (rx msg : List ℕ) (a : Answer) → NarrowAnswer a → answerHeard (answerNumber a) (put-words (answerWords a)) rx msg ≡ paper rx msg a
+  -- of a session whose capacity is c, with l bytes lent
+  answer-told : (c : ℕ) → U64 c → (rx msg : List ℕ) (a : Answer) → NarrowAnswer c a → answerHeard (answerNumber a) (put-words (answerWords a)) rx msg ≡ paper rx msg a
   unfolding answerHeard doneHeard paper
-  answer-told rx msg A.Done h = rw (at-words (0 ∷ 0 ∷ 0 ∷ []) (omega arith) (omega arith) 0 refl)
-  answer-told rx msg A.End h = rw (at-words (1 ∷ 0 ∷ 0 ∷ []) (omega arith) (omega arith) 0 refl)
-  answer-told rx msg (A.StatV1 s) h =
-      rw (at-words (2 ∷ 0 ∷ 0 ∷ statWords s) (omega arith) (omega arith) 0 refl) (ap P.stat (stat-heard s 2 0 0 h (omega arith) (omega arith)))
-  answer-told rx msg (A.StatV2 s) h =
-      rw (at-words (3 ∷ 0 ∷ 0 ∷ statV2Words s) (omega arith, (omega arith, (omega arith, wide2 s 0 h))) (omega arith) 0 refl)
+  answer-told c wide rx msg A.Done h = rw (at-words (answerWords A.Done) (omega arith) (omega arith) 0 refl)
+  answer-told c wide rx msg A.End h = rw (at-words (answerWords A.End) (omega arith) (omega arith) 0 refl)
+  answer-told c wide rx msg (A.StatV1 s) h =
+      rw (at-words (answerWords (A.StatV1 s)) (omega arith) (omega arith) 0 refl) (ap P.stat (stat-heard s 2 0 0 h (omega arith) (omega arith)))
+  answer-told c wide rx msg (A.StatV2 s) h =
+      rw (at-words (answerWords (A.StatV2 s)) (omega arith, (omega arith, (omega arith, wide2 s 0 h))) (omega arith) 0 refl)
       (ap P.stat2 (stat2-heard s 3 0 0 h (omega arith) (omega arith)))
-  answer-told rx msg (A.EntryV1 s i n) h =
-      let w = at-words (4 ∷ i ∷ n ∷ statWords s) (omega arith) (omega arith) in
-      rw (w 0 refl, w 1 refl, w 2 refl) (ap (λ x. partOf rx i n (P.entry x)) (stat-heard s 4 i n (h .1) (omega arith) (h .0)))
-  answer-told rx msg (A.EntryV2 s i n) h =
-      let l : U64 n = omega arith in
-      let w = at-words (5 ∷ i ∷ n ∷ statV2Words s) (omega arith, (h .0, (l, wide2 s n (h .1)))) (omega arith) in
-      rw (w 0 refl, w 1 refl, w 2 refl) (ap (λ x. partOf rx i n (P.entry2 x)) (stat2-heard s 5 i n (h .1) (omega arith) (h .0)))
-  answer-told rx msg (A.Chunk i n) h =
-      let w = at-words (6 ∷ i ∷ n ∷ []) (omega arith) (omega arith) in
+  answer-told c wide rx msg (A.EntryV1 s i n) h =
+      let w = at-words (answerWords (A.EntryV1 s i n)) (omega arith) (omega arith) in
+      rw (w 0 refl, w 1 refl, w 2 refl) (ap (λ x. partOf rx i n (P.entry x)) (stat-heard s 4 i n (h .1) (omega arith) (omega arith)))
+  answer-told c wide rx msg (A.EntryV2 s i n) h =
+      let w = at-words (answerWords (A.EntryV2 s i n)) (omega arith, (omega arith, (omega arith, wide2 s n (h .1)))) (omega arith) in
+      rw (w 0 refl, w 1 refl, w 2 refl) (ap (λ x. partOf rx i n (P.entry2 x)) (stat2-heard s 5 i n (h .1) (omega arith) (omega arith)))
+  answer-told c wide rx msg (A.Chunk i n) h =
+      let w = at-words (answerWords (A.Chunk i n)) (omega arith) (omega arith) in
       rw (w 0 refl, w 1 refl, w 2 refl)
-  answer-told rx msg (A.Refused n) h = refused-heard rx msg n h
-  answer-told rx msg (A.Missing n) h = rw (at-words (7 ∷ 0 ∷ 0 ∷ n ∷ []) (omega arith) (omega arith) 3 refl)
-  answer-told rx msg A.Closed h = refl
-  answer-told rx msg (A.Error c) h = rw (at-words (7 ∷ 0 ∷ 0 ∷ c ∷ []) (omega arith) (omega arith) 3 refl)
-  answer-told rx msg (A.Fail n) h =
-      let w = at-words (7 ∷ 0 ∷ n ∷ []) (omega arith) (omega arith) in
+  answer-told c wide rx msg (A.Refused n) h = refused-heard rx msg n h
+  answer-told c wide rx msg (A.Missing n) h = rw (at-words (answerWords (A.Missing n)) (omega arith) (omega arith) 3 refl)
+  answer-told c wide rx msg A.Closed h = refl
+  answer-told c wide rx msg (A.Error k) h = rw (at-words (answerWords (A.Error k)) (omega arith) (omega arith) 3 refl)
+  answer-told c wide rx msg (A.Fail n) h =
+      let w = at-words (answerWords (A.Fail n)) (omega arith) (omega arith) in
       rw (w 1 refl, w 2 refl)
-  answer-told rx msg (A.Unexpected a b c d) h =
-      let id : List ℕ = a ∷ b ∷ c ∷ d ∷ [] in
-      ap (λ x. P.unexpected (bytesOf 4 x)) (at-words (7 ∷ 0 ∷ 0 ∷ le id ∷ []) (omega arith) (omega arith) 3 refl)
+  answer-told c wide rx msg (A.Unexpected a b e d) h =
+      let id : List ℕ = a ∷ b ∷ e ∷ d ∷ [] in
+      ap (λ x. P.unexpected (bytesOf 4 x)) (at-words (answerWords (A.Unexpected a b e d)) (omega arith) (omega arith) 3 refl)
       ∙ ap P.unexpected (bytesOf-le id (four-bytes h))
-  answer-told rx msg (A.Errno c) h = rw (at-words (7 ∷ 0 ∷ 0 ∷ c ∷ []) (omega arith) (omega arith) 3 refl)
-  answer-told rx msg A.TooLarge h = refl
+  answer-told c wide rx msg (A.Errno k) h = rw (at-words (answerWords (A.Errno k)) (omega arith) (omega arith) 3 refl)
+  answer-told c wide rx msg A.TooLarge h = refl
 
   -- bytes, behind how many they are
-  piece-heard : (p : Piece) → NarrowPiece p → take (at (put out 0 (replyBytes (R.WriteBytes p))) 0) (drop 8 (put out 0 (replyBytes (R.WriteBytes p)))) ≡ byValue p
+  piece-heard : (p : Piece) → NarrowPiece 0 p → take (at (put out 0 (replyBytes (R.WriteBytes p))) 0) (drop 8 (put out 0 (replyBytes (R.WriteBytes p)))) ≡ byValue p
   unfolding replyBytes
   piece-heard p h =
       let b : List ℕ = byValue p in
@@ -182,11 +182,11 @@ module _ (out : List ℕ) (size : outSize ≤ length out) where
       let q : 256 * n / 256 ≡ n = omega arith in
       rw (r, q)
 
-  pub heard-told : (rx msg : List ℕ) (r : Reply) → NarrowReply r → heard (replyNumber r) (put out 0 (replyBytes r)) rx msg ≡ showOf rx msg r
+  pub heard-told : (c l : ℕ) → U64 c → U64 l → (rx msg : List ℕ) (r : Reply) → NarrowReply c l r → heard (replyNumber r) (put out 0 (replyBytes r)) rx msg ≡ showOf rx msg r
   unfolding replyNumber replyBytes heard
-  heard-told rx msg (R.Told a) h = told-heard (put-words (answerWords a)) rx msg (answerNumber a) ∙ ap told (answer-told rx msg a h)
-  heard-told rx msg (R.Read i n) h = let w = at-words (i ∷ n ∷ []) (omega arith) (omega arith) in rw (w 0 refl, w 1 refl)
-  heard-told rx msg (R.WriteRx i n) h = let w = at-words (i ∷ n ∷ []) (omega arith) (omega arith) in rw (w 0 refl, w 1 refl)
-  heard-told rx msg (R.WriteLent i n) h = let w = at-words (i ∷ n ∷ []) (omega arith) (omega arith) in rw (w 0 refl, w 1 refl)
-  heard-told rx msg (R.WriteBytes p) h = ap writeBytes (piece-heard p h)
-  heard-told rx msg R.Close h = refl
+  heard-told c l wide lent rx msg (R.Told a) h = told-heard (put-words (answerWords a)) rx msg (answerNumber a) ∙ ap told (answer-told c wide rx msg a h)
+  heard-told c l wide lent rx msg (R.Read i n) h = let w = at-words (i ∷ n ∷ []) (omega arith) (omega arith) in rw (w 0 refl, w 1 refl)
+  heard-told c l wide lent rx msg (R.WriteRx i n) h = let w = at-words (i ∷ n ∷ []) (omega arith) (omega arith) in rw (w 0 refl, w 1 refl)
+  heard-told c l wide lent rx msg (R.WriteLent i n) h = let w = at-words (i ∷ n ∷ []) (omega arith) (omega arith) in rw (w 0 refl, w 1 refl)
+  heard-told c l wide lent rx msg (R.WriteBytes p) h = ap writeBytes (piece-heard p h)
+  heard-told c l wide lent rx msg R.Close h = refl

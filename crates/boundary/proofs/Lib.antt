@@ -7,3 +7,4 @@ pub mod Heard
 pub mod Carried
 pub mod Logs
 pub mod Demand3
+pub mod Crossings

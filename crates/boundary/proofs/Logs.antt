@@ -4,6 +4,7 @@
 use Prim.Native.Nat.{ℕ, zero, suc, _+_, _-_, _≤_, _<_}
 use mathlib.Core.Bool.{Bool, true, false, _&&_, and-eq-true-iff}
 use mathlib.Core.List.{List, [], _∷_, _++_}
+use mathlib.Core.Option.{Option, none, some}
 use mathlib.Core.Path.{_≡_, refl, sym, ap, _∙_, subst}
 use native.Mathlib.Omega.{arith}
 use borrow.Author.Tests.{ltb-true, leb-true}
@@ -26,15 +27,15 @@ use Rattle.session.specs.declared.Reply.the-variants as R
 use Rattle.session.specs.declared.Session.{Session}
 use Rattle.session.specs.Core as C
 use Rattle.session.specs.Core.{askOf, faultOf, showOf, begin, core}
-use Rattle.session.specs.Demand3.{Coded, CodedReport, Wide, AllWide}
+use Rattle.session.specs.Demand3.{Coded, CodedFault, CodedReport, Wide, AllWide}
 use Rattle.session.specs.EveryHost.{CodedHost}
-use Rattle.session.specs.Host.{Step, Host, Ask, World, newCall, hasRead, composing, counted, filling, lentOf, Run, over-with, unended, grantRead, grantWrite, grantClose, granted, run, enough, runCall, Entry, onRun, logOf}
+use Rattle.session.specs.Host.{Spare, Step, Host, Ask, World, newCall, hasRead, hasStopped, composing, counted, filling, windowed, lentOf, Run, over-with, unended, grantRead, grantWrite, grantClose, granted, run, enough, runCall, Entry, onRun, logOf}
 use Rattle.session.specs.Reports.{reportRead, reportWrote, reportFault}
 use Rattle.session.specs.State.{St, st, Out, at}
 use Rattle.session.proofs.Buf.{sound-of, good-at, held-came}
 use Rattle.session.proofs.Run.{length-filling}
 use Rattle.session.proofs.Turns.{held}
-use Rattle.boundary.specs.Boundary.{exported}
+use Rattle.boundary.specs.Boundary.{exported, boundary}
 use Rattle.boundary.proofs.Carried.{image, holds-same, tail-same, start-image, wrote-image, fault-image, read-image}
 use Rattle.boundary.proofs.Reports.{NarrowFault, start-fine, entry-fine, chunk-fine, read-fine, wrote-fine, fault-fine}
 use Rattle.boundary.proofs.Steps.{Inv, Fine}
@@ -48,27 +49,28 @@ ask-fits list = tt
 ask-fits lis2 = tt
 ask-fits recv = tt
 
-begin-fine : (s : St) → Inv s → (q : Call) → Wide q → Fine (s .ses) (begin s q)
-begin-fine s x (call (ask i p)) w = start-fine s x (askOf i) p (ask-fits i) w
-begin-fine s x (call (rcv2 p f)) w = start-fine s x _ p (w .1) (w .0)
-begin-fine s x (call (send p m)) w = start-fine s x _ p (w .1) (w .0)
-begin-fine s x (call (snd2 p m f)) w = start-fine s x _ p (w .1) (w .0)
-begin-fine s x (call (chunk b)) w = start-fine s x _ b tt w
-begin-fine s x (call (done t)) w = start-fine s x _ [] w (omega arith)
-begin-fine s x (call quit) w = start-fine s x _ [] tt (omega arith)
-begin-fine s x (nextEntry v) w = entry-fine s x (C.versionOf v) 0 (omega arith)
-begin-fine s x nextChunk w = chunk-fine s x 0 (omega arith)
+-- whatever is lent
+begin-fine : (s : St) → Inv s → (q : Call) → Wide q → (lent : List ℕ) → U64 (length lent) → Fine (s .ses) (begin s q lent)
+begin-fine s x (call (ask i p)) w lent l = start-fine s x (askOf i) lent (ask-fits i) l
+begin-fine s x (call (rcv2 p f)) w lent l = start-fine s x _ lent (w .1) l
+begin-fine s x (call (send p m)) w lent l = start-fine s x _ lent (w .1) l
+begin-fine s x (call (snd2 p m f)) w lent l = start-fine s x _ lent (w .1) l
+begin-fine s x (call (chunk b)) w lent l = start-fine s x _ lent tt l
+begin-fine s x (call (done t)) w lent l = start-fine s x _ lent w l
+begin-fine s x (call quit) w lent l = start-fine s x _ lent tt l
+begin-fine s x (nextEntry v) w lent l = entry-fine s x (C.versionOf v) (length lent) l
+begin-fine s x nextChunk w lent l = chunk-fine s x (length lent) l
 
-lent-wide : (q : Call) → Wide q → U64 (length (lentOf q))
-lent-wide (call (ask i p)) w = w
-lent-wide (call (rcv2 p f)) w = w .0
-lent-wide (call (send p m)) w = w .0
-lent-wide (call (snd2 p m f)) w = w .0
-lent-wide (call (chunk b)) w = w
-lent-wide (call (done t)) w = omega arith
-lent-wide (call quit) w = omega arith
-lent-wide (nextEntry v) w = omega arith
-lent-wide nextChunk w = omega arith
+lent-wide : (z : Spare) → U64 (length (z .lent)) → (q : Call) → Wide q → U64 (length (lentOf z q))
+lent-wide z l (call (ask i p)) w = w
+lent-wide z l (call (rcv2 p f)) w = w .0
+lent-wide z l (call (send p m)) w = w .0
+lent-wide z l (call (snd2 p m f)) w = w .0
+lent-wide z l (call (chunk b)) w = w
+lent-wide z l (call (done t)) w = l
+lent-wide z l (call quit) w = l
+lent-wide z l (nextEntry v) w = l
+lent-wide z l nextChunk w = l
 
 pub coded-narrow : (e : End) → Coded e → NarrowFault (faultOf e)
 coded-narrow closed c = tt
@@ -119,47 +121,54 @@ same-if false x y f = refl
 abbrev replying : St → Reply → Out
 replying t r = record { st = t; reply = r }
 
-module _ (h : Host) (z : CodedHost h) (lent : List ℕ) (short : U64 (length lent)) where
+module _ (h : Host) (z : CodedHost h) (lends : (w : World) → boundary .lends (h .spare w)) (lent : List ℕ) (short : U64 (length lent)) where
   module _ (k : World → Step (List ℕ) → Run (List ℕ)) (k′ : World → Step Session → Run Session)
       (on : (s₀ : Session) (w : World) (o : Out) → Fine s₀ o → Bytes (w .left) → Same (k w (image o)) (k′ w (C.stepOf o)))
       (w : World) (b : Bytes (w .left)) where
     -- a report
-    wrote-same : (w′ : World) (t : St) → Inv t → Bytes (w′ .left)
-        → Same (k w′ (exported .onWrote (stored (t .ses)) (t .rx) (t .msg) lent)) (k′ w′ (core .onWrote (t .ses) (t .rx) (t .msg) lent))
-    wrote-same w′ t x y =
-        let f : Fine (t .ses) (reportWrote t lent) = wrote-fine t x lent short in
-        rw (wrote-image t x lent f) (on (t .ses) w′ (reportWrote t lent) f y)
+    wrote-same : (v w′ : World) (t : St) → Inv t → Bytes (w′ .left)
+        → Same (k w′ (exported .onWrote (stored (t .ses)) (t .rx) (t .msg) lent (h .spare v)))
+        (k′ w′ (core .onWrote (t .ses) (t .rx) (t .msg) lent (h .spare v)))
+    wrote-same v w′ t x y =
+        let f : Fine (t .ses) (reportWrote t lent) = wrote-fine t x lent in
+        rw (wrote-image t x (h .spare v) (lends v .0) lent f) (on (t .ses) w′ (reportWrote t lent) f y)
 
-    fault-same : (w′ : World) (t : St) (e : End) → Coded e → Inv t → Bytes (w′ .left)
-        → Same (k w′ (exported .onFault (stored (t .ses)) (t .rx) (t .msg) lent e)) (k′ w′ (core .onFault (t .ses) (t .rx) (t .msg) lent e))
-    fault-same w′ t e c x y =
+    fault-same : (v w′ : World) (t : St) (e : End) → Coded e → Inv t → Bytes (w′ .left)
+        → Same (k w′ (exported .onFault (stored (t .ses)) (t .rx) (t .msg) lent e (h .spare v)))
+        (k′ w′ (core .onFault (t .ses) (t .rx) (t .msg) lent e (h .spare v)))
+    fault-same v w′ t e c x y =
         let f : Fine (t .ses) (reportFault t (length lent) (faultOf e)) = fault-fine t x (faultOf e) (coded-narrow e c) (length lent) in
-        rw (fault-image t x lent e f) (on (t .ses) w′ (reportFault t (length lent) (faultOf e)) f y)
+        rw (fault-image t x (h .spare v) (lends v .0) lent e f) (on (t .ses) w′ (reportFault t (length lent) (faultOf e)) f y)
 
     module _ (t : St) (x : Inv t) (r : Reply) where
       write-same : (w′ : World) → Bytes (w′ .left) → (p : List ℕ) (o : Report) → CodedReport o
           → Same (grantWrite exported h lent k w′ (image (replying t r)) p o) (grantWrite core h lent k′ w′ (C.stepOf (replying t r)) p o)
-      write-same w′ y p accepted c = wrote-same _ t x y
-      write-same w′ y p (broke e) c = fault-same _ t e c x y
+      write-same w′ y p accepted c = wrote-same w′ _ t x y
+      write-same w′ y p (broke e) c = fault-same w′ _ t e c x y
 
       close-same : (o : Report) → CodedReport o
           → Same (grantClose exported h lent k w (image (replying t r)) o) (grantClose core h lent k′ w (C.stepOf (replying t r)) o)
-      close-same accepted c = wrote-same _ t x b
-      close-same (broke e) c = fault-same _ t e c x b
+      close-same accepted c = wrote-same w _ t x b
+      close-same (broke e) c = fault-same w _ t e c x b
 
-      module _ (i len : ℕ) (at-tail : i ≡ t .ses .buf .tail) (some : 0 < len) (inside : i + len ≤ length (t .rx)) where
+      module _ (i len : ℕ) (at-tail : i ≡ t .ses .buf .tail) (nonempty : 0 < len) (inside : i + len ≤ length (t .rx)) where
         abbrev asking : ℕ → Ask
         asking n = record { rest = w .left; holds = held t; at = i; len = len; before = w .pieces; brought = n }
 
-        read-same : (ls : List ℕ) → w .left ≡ ls
-            → Same (grantRead exported h lent k w (image (replying t r)) i len ls) (grantRead core h lent k′ w (C.stepOf (replying t r)) i len ls)
-        read-same [] e =
-            rw (holds-same t x)
-            (let f : ℕ → ℕ = h .junk (w .reads) in
+        -- the read comes to the fault d
+        fails-same : (w′ : World) (d : End) → Coded d → Bytes (w′ .left)
+            → Same (k w′ (exported .onFault (stored (t .ses)) (windowed (h .junk (w .reads)) (t .rx) i len []) (t .msg) lent d (h .spare w)))
+            (k′ w′ (core .onFault (t .ses) (windowed (h .junk (w .reads)) (t .rx) i len []) (t .msg) lent d (h .spare w)))
+        fails-same w′ d c y =
+            let f : ℕ → ℕ = h .junk (w .reads) in
             let l = length-filling f (len - 0) in
-            fault-same (hasRead 0 (asking 0) w) (laid t x i at-tail [] (filling f (len - 0)) (omega arith)) (h .end) (z .end)
-            (inv-laid t x i at-tail [] (filling f (len - 0)) (omega arith)) b)
-        read-same (c ∷ ls) e =
+            fault-same w w′ (laid t x i at-tail [] (filling f (len - 0)) (omega arith)) d c (inv-laid t x i at-tail [] (filling f (len - 0)) (omega arith)) y
+
+        read-same : (ls : List ℕ) (fails : Option End) → CodedFault fails → w .left ≡ ls
+            → Same (grantRead exported h lent k w (image (replying t r)) i len ls fails) (grantRead core h lent k′ w (C.stepOf (replying t r)) i len ls fails)
+        read-same [] fails y e = rw (holds-same t x) (fails-same (hasRead 0 (asking 0) w) (h .end) (z .end) b)
+        read-same (c ∷ ls) (some d) y e = rw (holds-same t x) (fails-same (hasStopped d (hasRead 0 (asking 0) w)) d y b)
+        read-same (c ∷ ls) none coded e =
             let n : ℕ = counted (h .count (w .reads)) len (length (w .left)) in
             let v : List ℕ = take n (w .left) in
             let y : length (w .left) ≡ suc (length ls) = ap length e in
@@ -171,7 +180,7 @@ module _ (h : Host) (z : CodedHost h) (lent : List ℕ) (short : U64 (length len
             let f : Fine (t .ses) (reportRead t₁ (length lent) n) =
             read-fine t₁ x₁ n (subst (λ (j : ℕ). Bytes (heldBytes (t₁ .rx) (cursor (t .ses .buf .head) (t .ses .buf .tail + j)))) m
             (bytes-laid t x i at-tail v junk fits (bytes-take n (w .left) b))) (length lent) in
-            rw (holds-same t x, read-image t₁ x₁ lent n f) (on (t .ses) (hasRead n (asking n) w) (reportRead t₁ (length lent) n) f (bytes-drop n (w .left) b))
+            rw (holds-same t x, read-image t₁ x₁ (h .spare w) (lends w .0) lent n f) (on (t .ses) (hasRead n (asking n) w) (reportRead t₁ (length lent) n) f (bytes-drop n (w .left) b))
 
     -- one step of both runs
     granted-same : (s₀ : Session) (t : St) (r : Reply) → Fine s₀ (replying t r)
@@ -181,7 +190,7 @@ module _ (h : Host) (z : CodedHost h) (lent : List ℕ) (short : U64 (length len
     granted-same s₀ t (R.Read i len) f =
         same-if (ltb 0 len && leb (i + len) (length (t .rx))) _ _
         (λ e. let (c, d) = and-eq-true-iff (ltb 0 len) (leb (i + len) (length (t .rx))) .0 e in
-        (read-same t (f .inv) (R.Read i len) i len (f .window) (ltb-true 0 len c) (leb-true _ _ d) (w .left) refl))
+        (read-same t (f .inv) (R.Read i len) i len (f .window) (ltb-true 0 len c) (leb-true _ _ d) (w .left) (h .fails (w .reads)) (z .reads (w .reads)) refl))
     granted-same s₀ t (R.WriteRx i len) f =
         same-if (leb (i + len) (length (t .rx))) _ _ (λ e. write-same t (f .inv) (R.WriteRx i len) (composing i w) b _ (h .writes (w .writes)) (z .writes (w .writes)))
     granted-same s₀ t (R.WriteLent i len) f =
@@ -198,7 +207,7 @@ module _ (h : Host) (z : CodedHost h) (lent : List ℕ) (short : U64 (length len
 
 -- ---- logs
 
-module _ (h : Host) (z : CodedHost h) where
+module _ (h : Host) (z : CodedHost h) (lends : (w : World) → boundary .lends (h .spare w)) where
   -- an entry, and what follows
   entry-same : (u : List ℕ) (z : ℕ) (m : List ℕ) (k : World → List ℕ → List ℕ → List ℕ → List Entry) (k′ : World → Session → List ℕ → List ℕ → List Entry)
       → ((w : World) (s : St) → Inv s → Bytes (w .left) → k w (stored (s .ses)) (s .rx) (s .msg) ≡ k′ w (s .ses) (s .rx) (s .msg))
@@ -211,8 +220,10 @@ module _ (h : Host) (z : CodedHost h) where
   unfolding logOf
   log-same [] w s x b v = refl
   log-same (q ∷ qs) w s x b v =
-      let f : Fine (s .ses) (begin s q) = begin-fine s x q (v .0) in
+      let sp : Spare = h .spare w in
+      let l : U64 (length (lentOf sp q)) = lent-wide sp (lends w .1) q (v .0) in
+      let f : Fine (s .ses) (begin s q (lentOf sp q)) = begin-fine s x q (v .0) (lentOf sp q) l in
       rw (holds-same s x, tail-same s x)
       (entry-same (held s) (s .ses .buf .tail) (s .msg) _ _ (λ w′ s′ x′ b′. log-same qs w′ s′ x′ b′ (v .1))
       (runCall exported h q w (stored (s .ses)) (s .rx) (s .msg)) (runCall core h q w (s .ses) (s .rx) (s .msg))
-      (rw (start-image s x q f) (run-same h z (lentOf q) (lent-wide q (v .0)) (enough q w) (s .ses) (newCall w) (begin s q) f b)))
+      (rw (start-image s x sp (lends w .0) q f) (run-same h z lends (lentOf sp q) l (enough q w) (s .ses) (newCall w) (begin s q (lentOf sp q)) f b)))

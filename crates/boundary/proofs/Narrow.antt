@@ -1,4 +1,5 @@
--- The widths of a reply's numbers; and that a turn keeps to them: what bytes spell is as wide as its field.
+-- The widths of a reply's numbers, and its parts inside their slices; and that a turn keeps to them: what bytes spell is as wide as its field,
+-- and what is told lies in the buffer.
 -- Assumes nothing.
 use Prim.Native.Nat.{ℕ, _+_, _-_, _≤_, _<_, _^_, min}
 use mathlib.Core.Bool.{Bool, true, false}
@@ -21,8 +22,8 @@ use Rattle.format_record.specs.declared.DentV1.{DentV1}
 use Rattle.format_record.specs.declared.DentV2.{DentV2}
 use Rattle.format_record.specs.declared.StatV1.{StatV1}
 use Rattle.format_record.specs.declared.StatV2.{StatV2}
-use Rattle.piece.specs.declared.Piece.{Piece}
-use Rattle.piece.specs.declared.Piece.the-variants as P
+use Rattle.request_piece.specs.declared.Piece.{Piece}
+use Rattle.request_piece.specs.declared.Piece.the-variants as P
 use Rattle.record.specs.Narrow.{U32, U64, I64, NarrowDent, NarrowDent2, NarrowPhase}
 use Rattle.session.specs.declared.Answer.{Answer}
 use Rattle.session.specs.declared.Answer.the-variants as A
@@ -52,39 +53,42 @@ dent2 s n = record { stat = s; namelen = n }
 abbrev pub Plain : ℕ → Type 0
 Plain n = (n < 12) × (n ≡ 10 → ⊥)
 
-abbrev pub NarrowAnswer : Answer → Type 0
-NarrowAnswer A.Done = Unit {0}
-NarrowAnswer A.End = Unit {0}
-NarrowAnswer (A.StatV1 s) = NarrowDent (dent s 0)
-NarrowAnswer (A.StatV2 s) = NarrowDent2 (dent2 s 0)
-NarrowAnswer (A.EntryV1 s i n) = U64 i × NarrowDent (dent s n)
-NarrowAnswer (A.EntryV2 s i n) = U64 i × NarrowDent2 (dent2 s n)
-NarrowAnswer (A.Chunk i n) = U64 i × U64 n
-NarrowAnswer (A.Refused n) = Plain n
-NarrowAnswer (A.Missing n) = U64 n
-NarrowAnswer A.Closed = Unit {0}
-NarrowAnswer (A.Error c) = U32 c
-NarrowAnswer (A.Fail n) = U64 n
-NarrowAnswer (A.Unexpected a b c d) = (a < 256) × (b < 256) × (c < 256) × (d < 256)
-NarrowAnswer (A.Errno c) = U32 c
-NarrowAnswer A.TooLarge = Unit {0}
+-- c is the capacity, which a part of either buffer stays within
+abbrev pub NarrowAnswer : (c : ℕ) → Answer → Type 0
+NarrowAnswer c A.Done = Unit {0}
+NarrowAnswer c A.End = Unit {0}
+NarrowAnswer c (A.StatV1 s) = NarrowDent (dent s 0)
+NarrowAnswer c (A.StatV2 s) = NarrowDent2 (dent2 s 0)
+NarrowAnswer c (A.EntryV1 s i n) = (i + n ≤ c) × NarrowDent (dent s n)
+NarrowAnswer c (A.EntryV2 s i n) = (i + n ≤ c) × NarrowDent2 (dent2 s n)
+NarrowAnswer c (A.Chunk i n) = i + n ≤ c
+NarrowAnswer c (A.Refused n) = Plain n
+NarrowAnswer c (A.Missing n) = U64 n
+NarrowAnswer c A.Closed = Unit {0}
+NarrowAnswer c (A.Error k) = U32 k
+NarrowAnswer c (A.Fail n) = n ≤ c
+NarrowAnswer c (A.Unexpected a b e d) = (a < 256) × (b < 256) × (e < 256) × (d < 256)
+NarrowAnswer c (A.Errno k) = U32 k
+NarrowAnswer c A.TooLarge = Unit {0}
 
-abbrev pub NarrowPiece : Piece → Type 0
-NarrowPiece (P.Header id arg) = Unit {0}
-NarrowPiece P.Lent = Unit {0}
-NarrowPiece P.Comma = Unit {0}
-NarrowPiece (P.Digits m) = U32 (m .0)
-NarrowPiece (P.Inner id) = Unit {0}
-NarrowPiece (P.Word x) = Unit {0}
-NarrowPiece P.End = Unit {0}
+-- of a message that carries n bytes: what is lent goes out only where there is some
+abbrev pub NarrowPiece : (n : ℕ) → Piece → Type 0
+NarrowPiece n (P.Header id arg) = Unit {0}
+NarrowPiece n P.Lent = 0 < n
+NarrowPiece n P.Comma = Unit {0}
+NarrowPiece n (P.Digits m) = U32 (m .0)
+NarrowPiece n (P.Inner id) = Unit {0}
+NarrowPiece n (P.Word x) = Unit {0}
+NarrowPiece n P.End = Unit {0}
 
-abbrev pub NarrowReply : Reply → Type 0
-NarrowReply (R.Told a) = NarrowAnswer a
-NarrowReply (R.Read i n) = U64 i × U64 n
-NarrowReply (R.WriteRx i n) = U64 i × U64 n
-NarrowReply (R.WriteLent i n) = U64 i × U64 n
-NarrowReply (R.WriteBytes p) = NarrowPiece p
-NarrowReply R.Close = Unit {0}
+-- l bytes are lent
+abbrev pub NarrowReply : (c l : ℕ) → Reply → Type 0
+NarrowReply c l (R.Told a) = NarrowAnswer c a
+NarrowReply c l (R.Read i n) = i + n ≤ c
+NarrowReply c l (R.WriteRx i n) = i + n ≤ c
+NarrowReply c l (R.WriteLent i n) = i + n ≤ l
+NarrowReply c l (R.WriteBytes p) = NarrowPiece 0 p
+NarrowReply c l R.Close = Unit {0}
 
 -- ---- one turn: what bytes spell is as wide as the field
 
@@ -133,24 +137,24 @@ dent2-narrow s n b h =
     z = subst Bytes (drop-take 4 68 s) (bytes-drop 4 (take 72 s) b)
 
 -- an answer that is none of the refusals
-abbrev pub Given : Answer → Type 0
-Given a = NarrowAnswer a × (isRefusal (R.Told a) ≡ false)
+abbrev pub Given : (c : ℕ) → Answer → Type 0
+Given c a = NarrowAnswer c a × (isRefusal (R.Told a) ≡ false)
 
-abbrev pub NarrowThen : Then → Type 0
-NarrowThen (Stop a) = Given a
-NarrowThen (Go p) = NarrowPhase p
+abbrev pub NarrowThen : (c : ℕ) → Then → Type 0
+NarrowThen c (Stop a) = Given c a
+NarrowThen c (Go p) = NarrowPhase c p
 
 -- a turn drops and keeps no more than is wanted, and what follows is narrow
 pub record Fit (c : ℕ) (p : Phase) (t : Turn) : Type 0 where
   pub drops : t .drops ≤ wants c p
   pub keeps : t .keeps ≤ wants c p
-  pub then : NarrowThen (t .then)
+  pub then : NarrowThen c (t .then)
 
 module _ (c : ℕ) where
-  stops : {p : Phase} {n : ℕ} {a : Answer} → n ≤ wants c p → Given a → Fit c p (stopping n a)
+  stops : {p : Phase} {n : ℕ} {a : Answer} → n ≤ wants c p → Given c a → Fit c p (stopping n a)
   stops l h = record { drops = l; keeps = omega arith; then = h }
 
-  goes : {p q : Phase} {n : ℕ} → n ≤ wants c p → NarrowPhase q → Fit c p (going n q)
+  goes : {p q : Phase} {n : ℕ} → n ≤ wants c p → NarrowPhase c q → Fit c p (going n q)
   goes l h = record { drops = l; keeps = omega arith; then = h }
 
   -- a header
@@ -177,14 +181,14 @@ module _ (c : ℕ) where
     headed-fit w = id-fit (same id (letters FAIL)) (goes (omega arith) h) (proceed-fit w)
 
   -- a FAIL text
-  drained-fit : {p : Phase} (d k left text : ℕ) → d ≤ wants c p → k ≤ wants c p → U64 left → U64 text → Fit c p (drained d k left text)
+  drained-fit : {p : Phase} (d k left text : ℕ) → d ≤ wants c p → k ≤ wants c p → U64 left → text ≤ c → Fit c p (drained d k left text)
   unfolding drained
   drained-fit {p} d k left text l m x y =
-      record { drops = l; keeps = m; then = pick-cases NarrowThen (eqb left 0) (λ e. (y, refl)) (λ e. (x, y)) }
+      record { drops = l; keeps = m; then = pick-cases (NarrowThen c) (eqb left 0) (λ e. (y, refl)) (λ e. (x, y)) }
 
   -- the turn of each phase, where the bytes that it wants lie from i on
-  module _ (rx : List ℕ) (i : ℕ) (small : length rx < 2 ^ 63) (narrow : c < 2 ^ 63) where
-    pub turn-fit : (p : Phase) → NarrowPhase p → i + wants c p ≤ length rx → Bytes (take (wants c p) (drop i rx)) → Fit c p (turnAt c p rx i)
+  module _ (rx : List ℕ) (i : ℕ) (same-length : length rx ≡ c) (narrow : c < 2 ^ 63) where
+    pub turn-fit : (p : Phase) → NarrowPhase c p → i + wants c p ≤ length rx → Bytes (take (wants c p) (drop i rx)) → Fit c p (turnAt c p rx i)
     unfolding wants turnAt dentAt dent2At
     turn-fit (Header w) n l b =
         let y : List ℕ = drop i rx in
@@ -194,7 +198,7 @@ module _ (c : ℕ) where
         record {
           drops = omega arith;
           keeps = omega arith;
-          then = pick-cases (λ a. NarrowThen (Stop a)) (eqb (stat2At (drop i rx) .error) 0)
+          then = pick-cases (λ a. NarrowThen c (Stop a)) (eqb (stat2At (drop i rx) .error) 0)
               (λ e. (dent2-narrow (drop i rx) 0 b (omega arith), refl)) (λ e. (dent2-narrow (drop i rx) 0 b (omega arith) .error, refl));
         }
     turn-fit (Entry V1) n l b =
@@ -205,12 +209,12 @@ module _ (c : ℕ) where
     turn-fit (Last V2) n l b = stops (omega arith) (tt, refl)
     turn-fit (NameV1 d) n l b = stops (omega arith) ((omega arith, n), refl)
     turn-fit (NameV2 d) n l b = stops (omega arith) ((omega arith, n), refl)
-    turn-fit (Body m) n l b = stops (omega arith) ((omega arith, omega arith), refl)
+    turn-fit (Body m) n l b = stops (omega arith) (omega arith, refl)
     turn-fit (Text m) n l b = drained-fit (min m c) (min m c) (m - min m c) (min m c) (omega arith) (omega arith) (omega arith) (omega arith)
     turn-fit (Rest left text) n l b = drained-fit (min left c) 0 (left - min left c) text (omega arith) (omega arith) (omega arith) (n .1)
 
   -- how far a phase reads, from a place in the buffer, is a number of 64 bits
-  pub wants-below : (p : Phase) → NarrowPhase p → c < 2 ^ 63 → wants c p ≤ 2 ^ 63
+  pub wants-below : (p : Phase) → NarrowPhase c p → c < 2 ^ 63 → wants c p ≤ 2 ^ 63
   unfolding wants
   wants-below (Header w) n l = omega arith
   wants-below (Stat V1) n l = omega arith

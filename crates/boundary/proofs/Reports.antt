@@ -6,16 +6,17 @@ use mathlib.Core.List.{List}
 use mathlib.Core.Option.{Option, none, some}
 use mathlib.Core.Path.{_≡_, refl, sym}
 use native.Mathlib.Omega.{arith}
-use borrow.Author.Tests.{ltb-false}
+use borrow.Author.Tests.{ltb-false, eqb-true}
 use lib.Dec.{eqb, ltb}
 use lib.ListN.{length, getD}
 use Rattle.protocol.specs.Answers as P
 use Rattle.protocol.specs.Bytes.{Bytes, pick, has}
-use Rattle.protocol.specs.Calls.{Setting, orElse, refuse, pathRefusal, flagRefusal, featureRefusal, transferRefusal, askFeature, requestRefusal}
+use Rattle.protocol.specs.Refusal.{Setting, orElse, refuse, pathRefusal, flagRefusal, featureRefusal, transferRefusal, askFeature, requestRefusal}
 use Rattle.protocol.specs.Flags.{refusedFlags}
 use Rattle.protocol.specs.Ids.{Dialect}
 use Rattle.protocol.specs.Messages as M
 use Rattle.protocol.proofs.Bodies.{pick-cases, or-false}
+use Rattle.record.specs.Fields.{startsIn}
 use Rattle.record.specs.Narrow.{U32, U64, NarrowPhase, NarrowRequest, NarrowPending}
 use Rattle.recv_buf.specs.RecvBuf.{cursor, heldBytes}
 use Rattle.request.specs.Meaning.{meant}
@@ -33,14 +34,15 @@ use Rattle.session.specs.declared.Reply.the-variants as R
 use Rattle.session.specs.declared.Session.{Session}
 use Rattle.session.specs.declared.Version.{Version}
 use Rattle.session.specs.declared.Want.the-variants as W
-use Rattle.session.specs.Calls.{misfit, isIdle, callRefusal, unless, refusalOf, settingOf, orRefuse, startCall, entryCall, chunkCall}
+use Rattle.session.specs.Calls.{misfit, isIdle, callRefusal, refusedOr, refusalOf, settingOf, orRefuse, startCall, entryCall, chunkCall}
 use Rattle.session.specs.Reports.{reportRefusal, refusalAt, refusedOut, readIn, readAt, reportRead, closedOut, wroteAt, reportWrote, faultAnswer, pushFault, quitFault, writeFault, faultAt, reportFault}
 use Rattle.session.specs.State.{St, st, Out, out, beside, at, begun, shut, refusing}
-use Rattle.session.specs.Steps.{readOn, tidied, carried, sent, told}
+use Rattle.session.specs.Steps.{readOn}
+use Rattle.session.specs.Sends.{tidied, isData, carried, sent, told}
 use Rattle.session.proofs.Turns.{frameOf}
 use Rattle.boundary.specs.Crossing.{isRefusal}
 use Rattle.boundary.proofs.Narrow.{Plain, NarrowAnswer, Given}
-use Rattle.boundary.proofs.Steps.{Inv, Goes, Fine, fine, inv-pending, inv-tidied, idle, reads, told-goes, pump-goes, sent-goes, closing-goes, carried-fits, wrote-on-goes}
+use Rattle.boundary.proofs.Steps.{Inv, Goes, Fine, fine, inv-pending, inv-tidied, idle, reads, told-goes, pump-goes, sent-goes, closing-goes, carried-in, wrote-on-goes}
 
 -- ---- refusals
 
@@ -48,11 +50,11 @@ pick-same : {A : Type 0} (b : Bool) (a : A) → pick b a a ≡ a
 pick-same true a = refl
 pick-same false a = refl
 
-refused-fine : (s : St) (a : Answer) → Inv s → NarrowAnswer a → Fine (s .ses) (out (refusing (s .ses) a) (s .rx) (s .msg))
+refused-fine : (s : St) (a : Answer) → Inv s → NarrowAnswer (s .ses .capacity) a → Fine (s .ses) (out (refusing (s .ses) a) (s .rx) (s .msg))
 refused-fine s a x n = record { inv = x; reply = n; window = tt; same = pick-same (isRefusal (R.Told a)) (s .ses) }
 
-unless-fine : (s : St) (k : ℕ) (o : Out) → Inv s → Plain k → Fine (s .ses) o → Fine (s .ses) (unless k s o)
-unless-fine s k o x p f = pick-cases (Fine (s .ses)) (ltb 0 k) (λ e. refused-fine s (A.Refused k) x p) (λ e. f)
+unless-fine : (s : St) (k : ℕ) (o : Out) → Inv s → Plain k → (k ≡ 0 → Fine (s .ses) o) → Fine (s .ses) (refusedOr k s o)
+unless-fine s k o x p f = pick-cases (Fine (s .ses)) (ltb 0 k) (λ e. refused-fine s (A.Refused k) x p) (λ e. f (omega (arith, ltb-false 0 k e)))
 
 plain-pick : (b : Bool) {m n : ℕ} → Plain m → Plain n → Plain (pick b m n)
 plain-pick b p q = pick-cases Plain b (λ e. p) (λ e. q)
@@ -68,6 +70,18 @@ report-plain s x m n =
     plain-pick (misfit s x m) (omega arith)
     (plain-pick (isIdle (s .pending)) (plain-pick (s .ended) (omega arith) (omega arith))
     (plain-pick (eqb n (s .lent)) (plain-pick (s .ended) (omega arith) (omega arith)) (omega arith)))
+
+-- a report that is let in is one with as many bytes lent as the call had
+report-lent : (s : Session) (x m n : ℕ) → reportRefusal s x m n ≡ 0 → n ≡ s .lent
+unfolding reportRefusal
+report-lent s x m n = go (misfit s x m) (isIdle (s .pending)) (s .ended) (eqb n (s .lent)) refl
+  where
+    go : (f i e l : Bool) → eqb n (s .lent) ≡ l → _≡_ {A = ℕ} (pick f 3 (pick i (pick e 6 5) (pick l (pick e 6 0) 3))) 0 → n ≡ s .lent
+    go true i e l q z = absurd (omega (arith, z))
+    go false true true l q z = absurd (omega (arith, z))
+    go false true false l q z = absurd (omega (arith, z))
+    go false false e true q z = eqb-true n (s .lent) q
+    go false false e false q z = absurd (omega (arith, z))
 
 -- 7 to 10
 pub data NarrowRefusal : Option P.Answer → Type 0 where
@@ -123,6 +137,14 @@ request-narrow g M.quit = lets
 
 -- ---- the calls
 
+-- a call's first message carries what is lent from its start on
+starts-first : (q : Request) → startsIn q 0 ≡ true
+starts-first q = go (isData q)
+  where
+    go : (d : Bool) → (d || eqb 0 0) ≡ true
+    go true = refl
+    go false = refl
+
 inv-begun : (s : St) (n : ℕ) → Inv s → U64 n → Inv (st (begun (s .ses) n) (s .rx) (s .msg))
 inv-begun s n x h = record { good = omega (arith, x .good); wide = x .wide; lent = h; pending = x .pending; bytes = x .bytes }
 
@@ -139,7 +161,7 @@ module _ (s : St) (x : Inv s) where
   pub start-goes : (q : Request) (lent : List ℕ) → NarrowRequest q → U64 (length lent)
       → Goes (frameOf (begun (s .ses) (length lent))) (beside (sent (begun (s .ses) (length lent)) (s .rx) q 0 (carried q 0 lent)) (s .msg))
   start-goes q lent r h =
-      sent-goes (begins (length lent)) q 0 (carried q 0 lent) (inv-begun s (length lent) x h) r (omega arith) (carried-fits s 0 lent x (omega arith) h q)
+      sent-goes (begins (length lent)) q 0 (carried q 0 lent) (inv-begun s (length lent) x h) r (omega arith) (starts-first q) (carried-in q 0 lent (starts-first q))
 
   pub entry-goes : (v : Version) (n : ℕ) → U64 n → Goes (frameOf (begun (s .ses) n)) (readOn (begins n) (Header (W.Entry v)) false)
   entry-goes v n h = pump-goes 4 (begins n) (Header (W.Entry v)) false (inv-begun s n x h) tt
@@ -147,8 +169,8 @@ module _ (s : St) (x : Inv s) where
   pub chunk-goes : (n : ℕ) → U64 n → Goes (frameOf (begun (s .ses) n)) (readOn (tidied (begins n)) (Header W.Chunk) false)
   chunk-goes n h = pump-goes 4 (tidied (begins n)) (Header W.Chunk) false (inv-tidied _ (inv-begun s n x h)) tt
 
-  let-in-fine : (o : Out) → Fine (s .ses) o → Fine (s .ses) (unless (refusalOf s) s o)
-  let-in-fine o f = unless-fine s (refusalOf s) o x (call-plain (s .ses) (length (s .rx)) (length (s .msg))) f
+  let-in-fine : (o : Out) → Fine (s .ses) o → Fine (s .ses) (refusedOr (refusalOf s) s o)
+  let-in-fine o f = unless-fine s (refusalOf s) o x (call-plain (s .ses) (length (s .rx)) (length (s .msg))) (λ z. f)
 
   pub start-fine : (q : Request) (lent : List ℕ) → NarrowRequest q → U64 (length lent) → Fine (s .ses) (startCall s q lent)
   unfolding startCall
@@ -169,9 +191,9 @@ abbrev pub NarrowFault : Fault → Type 0
 NarrowFault F.Closed = Unit {0}
 NarrowFault (F.Error c) = U32 c
 
-fault-given : (e : Fault) → NarrowFault e → Given (faultAnswer e)
-fault-given F.Closed n = (tt, refl)
-fault-given (F.Error c) n = (n, refl)
+fault-given : (c : ℕ) (e : Fault) → NarrowFault e → Given c (faultAnswer e)
+fault-given c F.Closed n = (tt, refl)
+fault-given c (F.Error k) n = (n, refl)
 
 -- a read of no bytes, or beyond the window
 module _ (s : St) (p : Phase) (until : ℕ) (lost : Bool) (k : ℕ) (e : (eqb k 0 || ltb (s .ses .capacity - s .ses .buf .tail) k) ≡ true) where
@@ -185,8 +207,9 @@ module _ (s : St) (p : Phase) (until : ℕ) (lost : Bool) (k : ℕ) (e : (eqb k 
       go false false o z = absurd (true≢false (sym z))
 
 module _ (s : St) (x : Inv s) where
-  let-on-fine : (n : ℕ) (o : Out) → Fine (s .ses) o → Fine (s .ses) (unless (refusalAt s n) s o)
-  let-on-fine n o f = unless-fine s (refusalAt s n) o x (report-plain (s .ses) (length (s .rx)) (length (s .msg)) n) f
+  let-on-fine : (n : ℕ) (o : Out) → (n ≡ s .ses .lent → Fine (s .ses) o) → Fine (s .ses) (refusedOr (refusalAt s n) s o)
+  let-on-fine n o f = unless-fine s (refusalAt s n) o x (report-plain (s .ses) (length (s .rx)) (length (s .msg)) n)
+      (λ z. f (report-lent (s .ses) (length (s .rx)) (length (s .msg)) n z))
 
   misplaced : Fine (s .ses) (refusedOut s 5)
   misplaced = refused-fine s (A.Refused 5) x (omega arith)
@@ -199,7 +222,7 @@ module _ (s : St) (x : Inv s) where
     inv-came : k ≤ s .ses .capacity - s .ses .buf .tail → Inv came
     inv-came h = record { good = omega (arith, x .good); wide = x .wide; lent = x .lent; pending = tt; bytes = more }
 
-    pub read-in-goes : (p : Phase) (until : ℕ) (lost : Bool) → NarrowPhase p → U64 until
+    pub read-in-goes : (p : Phase) (until : ℕ) (lost : Bool) → NarrowPhase (s .ses .capacity) p → U64 until
         → (eqb k 0 || ltb (s .ses .capacity - s .ses .buf .tail) k) ≡ false → Goes (frameOf (s .ses)) (readIn s p until lost k)
     unfolding readIn
     read-in-goes p until lost n u e =
@@ -212,14 +235,14 @@ module _ (s : St) (x : Inv s) where
         (λ h. pump-goes 4 came p lost y n))
         (λ g. pump-goes 4 came p lost y n))
 
-    read-in-fine : (p : Phase) (until : ℕ) (lost : Bool) → NarrowPhase p → U64 until → Fine (s .ses) (readIn s p until lost k)
+    read-in-fine : (p : Phase) (until : ℕ) (lost : Bool) → NarrowPhase (s .ses .capacity) p → U64 until → Fine (s .ses) (readIn s p until lost k)
     read-in-fine p until lost n u = go (eqb k 0 || ltb (s .ses .capacity - s .ses .buf .tail) k) refl
       where
         go : (b : Bool) → (eqb k 0 || ltb (s .ses .capacity - s .ses .buf .tail) k) ≡ b → Fine (s .ses) (readIn s p until lost k)
         go true e = rw (read-in-refused s p until lost k e) (refused-fine s (A.Refused 11) x (omega arith))
         go false e = fine (s .ses) (read-in-goes p until lost n u e)
 
-    read-at-fine : (p : Pending) → NarrowPending p → Fine (s .ses) (readAt p s k)
+    read-at-fine : (p : Pending) → NarrowPending (s .ses .capacity) p → Fine (s .ses) (readAt p s k)
     unfolding readAt
     read-at-fine Idle n = misplaced
     read-at-fine (Reading p until lost) n = read-in-fine p until lost (n .0) (n .1)
@@ -228,11 +251,11 @@ module _ (s : St) (x : Inv s) where
 
     pub read-fine : (n : ℕ) → Fine (s .ses) (reportRead s n k)
     unfolding reportRead
-    read-fine n = let-on-fine n _ (read-at-fine (s .ses .pending) (x .pending))
+    read-fine n = let-on-fine n _ (λ z. read-at-fine (s .ses .pending) (x .pending))
 
-  pub closed-goes : (failed : Bool) (code : ℕ) (a : Answer) → U32 code → Given a → Goes (frameOf (shut (s .ses))) (closedOut s failed code a)
+  pub closed-goes : (failed : Bool) (code : ℕ) (a : Answer) → U32 code → Given (s .ses .capacity) a → Goes (frameOf (shut (s .ses))) (closedOut s failed code a)
   closed-goes failed code a n g =
-      let z : Given (pick failed (A.Error code) a) = pick-cases Given failed (λ e. (n, refl)) (λ e. g) in
+      let z : Given (s .ses .capacity) (pick failed (A.Error code) a) = pick-cases (Given (s .ses .capacity)) failed (λ e. (n, refl)) (λ e. g) in
       record {
         inv = record { good = omega (arith, x .good); wide = x .wide; lent = x .lent; pending = tt; bytes = x .bytes };
         reply = z .0;
@@ -241,16 +264,16 @@ module _ (s : St) (x : Inv s) where
         asked = idle;
       }
 
-  wrote-at-fine : (p : Pending) (lent : List ℕ) → NarrowPending p → U64 (length lent) → Fine (s .ses) (wroteAt p s lent)
+  wrote-at-fine : (p : Pending) (lent : List ℕ) → NarrowPending (s .ses .capacity) p → length lent ≡ s .ses .lent → Fine (s .ses) (wroteAt p s lent)
   unfolding wroteAt
   wrote-at-fine Idle lent n h = misplaced
   wrote-at-fine (Reading p until lost) lent n h = misplaced
-  wrote-at-fine (Writing q from piece) lent n h = fine (s .ses) (wrote-on-goes s from lent x (n .1 .0) h q piece (n .0))
+  wrote-at-fine (Writing q from piece) lent n h = fine (s .ses) (wrote-on-goes s from lent x (n .1 .0) h q piece (n .0) (n .2))
   wrote-at-fine (Closing failed code) lent n h = fine (s .ses) (closed-goes failed code A.Done n (tt, refl))
 
-  pub wrote-fine : (lent : List ℕ) → U64 (length lent) → Fine (s .ses) (reportWrote s lent)
+  pub wrote-fine : (lent : List ℕ) → Fine (s .ses) (reportWrote s lent)
   unfolding reportWrote
-  wrote-fine lent h = let-on-fine (length lent) _ (wrote-at-fine (s .ses .pending) lent (x .pending) h)
+  wrote-fine lent = let-on-fine (length lent) _ (λ z. wrote-at-fine (s .ses .pending) lent (x .pending) z)
 
   push-goes : (e : Fault) → NarrowFault e → Goes (frameOf (s .ses)) (pushFault s e)
   push-goes F.Closed c = pump-goes 4 s (Header W.Nothing) true x tt
@@ -263,12 +286,12 @@ module _ (s : St) (x : Inv s) where
   module _ (e : Fault) (c : NarrowFault e) where
     pub write-fault-goes : (q : Request) → Goes (frameOf (s .ses)) (writeFault s q e)
     unfolding writeFault
-    write-fault-goes Q.Stat = told-goes s (faultAnswer e) x (fault-given e c)
-    write-fault-goes Q.Sta2 = told-goes s (faultAnswer e) x (fault-given e c)
-    write-fault-goes Q.List = told-goes s (faultAnswer e) x (fault-given e c)
-    write-fault-goes Q.Lis2 = told-goes s (faultAnswer e) x (fault-given e c)
-    write-fault-goes Q.Recv = told-goes s (faultAnswer e) x (fault-given e c)
-    write-fault-goes (Q.Rcv2 f) = told-goes s (faultAnswer e) x (fault-given e c)
+    write-fault-goes Q.Stat = told-goes s (faultAnswer e) x (fault-given (s .ses .capacity) e c)
+    write-fault-goes Q.Sta2 = told-goes s (faultAnswer e) x (fault-given (s .ses .capacity) e c)
+    write-fault-goes Q.List = told-goes s (faultAnswer e) x (fault-given (s .ses .capacity) e c)
+    write-fault-goes Q.Lis2 = told-goes s (faultAnswer e) x (fault-given (s .ses .capacity) e c)
+    write-fault-goes Q.Recv = told-goes s (faultAnswer e) x (fault-given (s .ses .capacity) e c)
+    write-fault-goes (Q.Rcv2 f) = told-goes s (faultAnswer e) x (fault-given (s .ses .capacity) e c)
     write-fault-goes (Q.Send m) = push-goes e c
     write-fault-goes (Q.Snd2 m f) = push-goes e c
     write-fault-goes Q.Data = push-goes e c
@@ -276,12 +299,12 @@ module _ (s : St) (x : Inv s) where
     write-fault-goes Q.Quit = quit-goes e c
 
     pub read-fault-goes : (lost : Bool) → Goes (frameOf (s .ses)) (told s (pick lost A.Closed (faultAnswer e)))
-    read-fault-goes lost = told-goes s _ x (pick-cases Given lost (λ z. (tt, refl)) (λ z. fault-given e c))
+    read-fault-goes lost = told-goes s _ x (pick-cases (Given (s .ses .capacity)) lost (λ z. (tt, refl)) (λ z. fault-given (s .ses .capacity) e c))
 
     pub close-fault-goes : (failed : Bool) (code : ℕ) → U32 code → Goes (frameOf (shut (s .ses))) (closedOut s failed code (faultAnswer e))
-    close-fault-goes failed code n = closed-goes failed code (faultAnswer e) n (fault-given e c)
+    close-fault-goes failed code n = closed-goes failed code (faultAnswer e) n (fault-given (s .ses .capacity) e c)
 
-    fault-at-fine : (p : Pending) → NarrowPending p → Fine (s .ses) (faultAt p s e)
+    fault-at-fine : (p : Pending) → NarrowPending (s .ses .capacity) p → Fine (s .ses) (faultAt p s e)
     unfolding faultAt
     fault-at-fine Idle n = misplaced
     fault-at-fine (Reading p until lost) n = fine (s .ses) (read-fault-goes lost)
@@ -290,4 +313,4 @@ module _ (s : St) (x : Inv s) where
 
     pub fault-fine : (n : ℕ) → Fine (s .ses) (reportFault s n e)
     unfolding reportFault
-    fault-fine n = let-on-fine n _ (fault-at-fine (s .ses .pending) (x .pending))
+    fault-fine n = let-on-fine n _ (λ z. fault-at-fine (s .ses .pending) (x .pending))

@@ -1,12 +1,13 @@
 -- What a session does between two reports keeps the widths: from a session whose numbers fit their fields and whose held bytes are bytes it
--- leaves such a session, and a reply whose numbers fit theirs. What is pending then is what the reply asks for; a read is asked at tail.
+-- leaves such a session, and a reply whose numbers fit theirs and whose parts lie inside. What is pending then is what the reply asks for; a
+-- read is asked at tail.
 -- Assumes nothing.
 use Prim.Native.Nat.{ℕ, zero, suc, _+_, _-_, _≤_, _<_, _^_}
-use mathlib.Core.Bool.{Bool, true, false, true≢false}
+use mathlib.Core.Bool.{Bool, true, false, true≢false, _||_}
 use mathlib.Core.List.{List, [], _∷_}
 use mathlib.Core.Path.{_≡_, refl, sym, ap, subst}
 use native.Mathlib.Omega.{arith}
-use borrow.Author.Tests.{ltb-false, leb-true}
+use borrow.Author.Tests.{ltb-false, leb-true, eqb-true, eqb-false}
 use lib.Dec.{eqb, ltb, leb}
 use lib.ListN.{length, getD, take, drop, length-take, length-drop}
 use Rattle.protocol.specs.Answers as Paper
@@ -16,9 +17,10 @@ use Rattle.protocol.specs.Messages.{bytesOfRequest, dataMost}
 use Rattle.protocol.proofs.Bodies.{pick-cases}
 use Rattle.protocol.proofs.Bytes.{bytes-drop, over-length, put-in}
 use Rattle.protocol.proofs.Words.{bytes-take}
-use Rattle.piece.specs.Pieces.{partsOf, pieceList, pieceOf}
-use Rattle.piece.specs.declared.Piece.{Piece}
-use Rattle.piece.specs.declared.Piece.the-variants as P
+use Rattle.request_piece.specs.Pieces.{partsOf, pieceList, pieceOf}
+use Rattle.request_piece.specs.declared.Piece.{Piece}
+use Rattle.request_piece.specs.declared.Piece.the-variants as P
+use Rattle.record.specs.Fields.{startsIn}
 use Rattle.record.specs.Narrow.{U32, U64, NarrowPhase, NarrowRequest, NarrowPending, Narrow}
 use Rattle.recv_buf.specs.RecvBuf.{heldCount}
 use Rattle.recv_buf.proofs.Laws.{window-keeps}
@@ -43,7 +45,8 @@ use Rattle.session.specs.Host.{Show, read, writeRx, writeLent, writeBytes, clos
 use Rattle.session.specs.Host as H
 use Rattle.session.specs.Phases.{wants}
 use Rattle.session.specs.State.{St, st, Out, out, half, beside, stepped, at, Good}
-use Rattle.session.specs.Steps.{reading, asked, onHop, turned, followed, turnOf, hopped, pumped, tidied, isData, carried, pieceReply, sendPiece, messageOut, sent, told, closingOut, resumed, isEnd, wroteOn}
+use Rattle.session.specs.Steps.{reading, asked, onHop, turned, followed, turnOf, hopped, pumped}
+use Rattle.session.specs.Sends.{tidied, isData, carried, pieceReply, sendPiece, messageOut, sent, told, closingOut, resumed, isEnd, wroteOn}
 use Rattle.session.proofs.Buf.{sound-of, good-at, good-tidied, held-tidied, held-dropped, kept-length, view}
 use Rattle.session.proofs.Turns.{held, Frame, frameOf}
 use Rattle.session.proofs.Writes.{Sent, pieces-sent}
@@ -57,7 +60,7 @@ pub record Inv (s : St) : Type 0 where
   pub good : Good s
   pub wide : s .ses .message < 2 ^ 63
   pub lent : U64 (s .ses .lent)
-  pub pending : NarrowPending (s .ses .pending)
+  pub pending : NarrowPending (s .ses .capacity) (s .ses .pending)
   pub bytes : Bytes (held s)
 
 pub narrow-of : (s : St) → Inv s → Narrow (s .ses)
@@ -80,7 +83,7 @@ Asked s sh = Awaits (s .buf .tail) (s .capacity - s .buf .tail) (s .pending) sh
 -- what a step leaves that is not refused; φ is what it keeps
 pub record Goes (φ : Frame) (o : Out) : Type 0 where
   pub inv : Inv (o .st)
-  pub reply : NarrowReply (o .reply)
+  pub reply : NarrowReply (o .st .ses .capacity) (o .st .ses .lent) (o .reply)
   pub given : isRefusal (o .reply) ≡ false
   pub frame : frameOf (o .st .ses) ≡ φ
   pub asked : Asked (o .st .ses) (showOf (o .st .rx) (o .st .msg) (o .reply))
@@ -97,7 +100,7 @@ Window s R.Close = Unit {0}
 -- what a step that began with the session s₀ leaves, refused or not
 pub record Fine (s₀ : Session) (o : Out) : Type 0 where
   pub inv : Inv (o .st)
-  pub reply : NarrowReply (o .reply)
+  pub reply : NarrowReply (o .st .ses .capacity) (o .st .ses .lent) (o .reply)
   pub window : Window (o .st .ses) (o .reply)
   pub same : pick (isRefusal (o .reply)) s₀ (o .st .ses) ≡ o .st .ses
 
@@ -121,7 +124,7 @@ fine {o = o} s₀ g =
       same = ap (λ (b : Bool). pick b s₀ (o .st .ses)) (g .given);
     }
 
-pub inv-pending : (s : St) (p : Pending) → Inv s → NarrowPending p → Inv (st (at (s .ses) (s .ses .buf) p) (s .rx) (s .msg))
+pub inv-pending : (s : St) (p : Pending) → Inv s → NarrowPending (s .ses .capacity) p → Inv (st (at (s .ses) (s .ses .buf) p) (s .rx) (s .msg))
 inv-pending s p x n = record { good = omega (arith, x .good); wide = x .wide; lent = x .lent; pending = n; bytes = x .bytes }
 
 pub inv-tidied : (s : St) → Inv s → Inv (tidied s)
@@ -130,35 +133,36 @@ inv-tidied s x =
 
 -- ---- the pieces of a message
 
-abbrev AllNarrow : List Piece → Type 0
-AllNarrow [] = Unit {0}
-AllNarrow (p ∷ ps) = NarrowPiece p × AllNarrow ps
+abbrev AllNarrow : ℕ → List Piece → Type 0
+AllNarrow n [] = Unit {0}
+AllNarrow n (p ∷ ps) = NarrowPiece n p × AllNarrow n ps
 
 -- with the lent part or without
-rest-narrow : (b : Bool) (l : List Piece) → AllNarrow l → AllNarrow (pick b (drop 1 l) l)
-rest-narrow false l h = h
-rest-narrow true [] h = tt
-rest-narrow true (p ∷ l) h = h .1
+rest-narrow : (n : ℕ) (l : List Piece) → AllNarrow n l → AllNarrow n (pick (eqb n 0) l (P.Lent ∷ l))
+rest-narrow n l h = pick-cases (AllNarrow n) (eqb n 0) (λ e. h) (λ e. let f = eqb-false n 0 e in (omega arith, h))
 
-pieces-narrow : (q : Request) → NarrowRequest q → (n : ℕ) → AllNarrow (pieceList q n)
+none-narrow : (n : ℕ) → AllNarrow n (pick (eqb n 0) [] [])
+none-narrow n = pick-cases (AllNarrow n) (eqb n 0) (λ e. tt) (λ e. tt)
+
+pieces-narrow : (q : Request) → NarrowRequest q → (n : ℕ) → AllNarrow n (pieceList q n)
 unfolding pieceList
-pieces-narrow Q.Stat r n = (tt, rest-narrow (eqb n 0) (partsOf Q.Stat) (tt, tt))
-pieces-narrow Q.Sta2 r n = (tt, rest-narrow (eqb n 0) (partsOf Q.Sta2) (tt, tt))
-pieces-narrow Q.List r n = (tt, rest-narrow (eqb n 0) (partsOf Q.List) (tt, tt))
-pieces-narrow Q.Lis2 r n = (tt, rest-narrow (eqb n 0) (partsOf Q.Lis2) (tt, tt))
-pieces-narrow Q.Recv r n = (tt, rest-narrow (eqb n 0) (partsOf Q.Recv) (tt, tt))
-pieces-narrow (Q.Rcv2 f) r n = (tt, rest-narrow (eqb n 0) (partsOf (Q.Rcv2 f)) (tt, (tt, (tt, tt))))
-pieces-narrow (Q.Send m) r n = (tt, rest-narrow (eqb n 0) (partsOf (Q.Send m)) (tt, (tt, (r, tt))))
-pieces-narrow (Q.Snd2 m f) r n = (tt, rest-narrow (eqb n 0) (partsOf (Q.Snd2 m f)) (tt, (tt, (tt, (tt, tt)))))
-pieces-narrow Q.Data r n = (tt, rest-narrow (eqb n 0) (partsOf Q.Data) (tt, tt))
-pieces-narrow (Q.Done t) r n = (tt, rest-narrow (eqb n 0) (partsOf (Q.Done t)) tt)
-pieces-narrow Q.Quit r n = (tt, rest-narrow (eqb n 0) (partsOf Q.Quit) tt)
+pieces-narrow Q.Stat r n = (tt, rest-narrow n [] tt)
+pieces-narrow Q.Sta2 r n = (tt, rest-narrow n [] tt)
+pieces-narrow Q.List r n = (tt, rest-narrow n [] tt)
+pieces-narrow Q.Lis2 r n = (tt, rest-narrow n [] tt)
+pieces-narrow Q.Recv r n = (tt, rest-narrow n [] tt)
+pieces-narrow (Q.Rcv2 f) r n = (tt, rest-narrow n _ (tt, (tt, tt)))
+pieces-narrow (Q.Send m) r n = (tt, rest-narrow n _ (tt, (r, tt)))
+pieces-narrow (Q.Snd2 m f) r n = (tt, rest-narrow n _ (tt, (tt, (tt, tt))))
+pieces-narrow Q.Data r n = (tt, rest-narrow n [] tt)
+pieces-narrow (Q.Done t) r n = (tt, none-narrow n)
+pieces-narrow Q.Quit r n = (tt, none-narrow n)
 
-piece-narrow : (q : Request) → NarrowRequest q → (n k : ℕ) → NarrowPiece (pieceOf q n k)
+piece-narrow : (q : Request) → NarrowRequest q → (n k : ℕ) → NarrowPiece n (pieceOf q n k)
 unfolding pieceOf
 piece-narrow q r n k = go (pieceList q n) k (pieces-narrow q r n)
   where
-    go : (l : List Piece) (k : ℕ) → AllNarrow l → NarrowPiece (getD l k P.End)
+    go : (l : List Piece) (k : ℕ) → AllNarrow n l → NarrowPiece n (getD l k P.End)
     go [] k h = tt
     go (p ∷ l) zero h = h .0
     go (p ∷ l) (suc k) h = go l k (h .1)
@@ -176,28 +180,28 @@ piece-early q n k e = go (pieceList q n) 5 k (pieces-sent q n) e
 
 -- ---- reading
 
-reading-goes : (s : St) (p : Phase) (lost : Bool) → Inv s → NarrowPhase p
+reading-goes : (s : St) (p : Phase) (lost : Bool) → Inv s → NarrowPhase (s .ses .capacity) p
     → Goes (frameOf (s .ses)) (beside (half (reading (s .ses) (s .ses .buf .head) (s .ses .buf .tail) p lost) (s .rx)) (s .msg))
 reading-goes s p lost x n =
     let g = x .good in
     let w = wants-below (s .ses .capacity) p n (omega arith) in
     record { inv = inv-pending s _ x (n, omega arith); reply = omega arith; given = refl; frame = refl; asked = reads }
 
-asked-goes : (s : St) (p : Phase) (lost : Bool) → Inv s → NarrowPhase p → Goes (frameOf (s .ses)) (beside (asked (s .ses) (s .rx) p lost) (s .msg))
+asked-goes : (s : St) (p : Phase) (lost : Bool) → Inv s → NarrowPhase (s .ses .capacity) p → Goes (frameOf (s .ses)) (beside (asked (s .ses) (s .rx) p lost) (s .msg))
 unfolding asked
 asked-goes s p lost x n =
     pick-cases (λ h. Goes (frameOf (s .ses)) (beside h (s .msg))) (ltb (s .ses .buf .tail) (s .ses .capacity))
     (λ e. reading-goes s p lost x n) (λ e. reading-goes (tidied s) p lost (inv-tidied s x) n)
 
-pub told-goes : (s : St) (a : Answer) → Inv s → Given a → Goes (frameOf (s .ses)) (told s a)
+pub told-goes : (s : St) (a : Answer) → Inv s → Given (s .ses .capacity) a → Goes (frameOf (s .ses)) (told s a)
 told-goes s a x g =
     record { inv = inv-pending s Idle x tt; reply = g .0; given = g .1; frame = refl; asked = idle }
 
-module _ (s : St) (p : Phase) (x : Inv s) (n : NarrowPhase p) (l : wants (s .ses .capacity) p ≤ heldCount (s .ses .buf)) where
+module _ (s : St) (p : Phase) (x : Inv s) (n : NarrowPhase (s .ses .capacity) p) (l : wants (s .ses .capacity) p ≤ heldCount (s .ses .buf)) where
   fit : Fit (s .ses .capacity) p (turnOf s p)
   fit =
       let g = x .good in
-      turn-fit (s .ses .capacity) (s .rx) (s .ses .buf .head) (omega arith) (omega arith) p n (omega arith)
+      turn-fit (s .ses .capacity) (s .rx) (s .ses .buf .head) (g .rx) (omega arith) p n (omega arith)
       (subst Bytes (view s g (wants (s .ses .capacity) p) l) (bytes-take (wants (s .ses .capacity) p) (held s) (x .bytes)))
 
   inv-turned : Inv (turned s (turnOf s p))
@@ -214,13 +218,13 @@ module _ (s : St) (p : Phase) (x : Inv s) (n : NarrowPhase p) (l : wants (s .ses
         bytes = subst Bytes (sym (held-dropped s g ((turnOf s p) .drops) (omega arith))) (bytes-drop ((turnOf s p) .drops) (held s) (x .bytes));
       }
 
-follow-goes : (k : St → Phase → Out) (s : St) (t : Then) → Inv s → NarrowThen t → ((p : Phase) → NarrowPhase p → Goes (frameOf (s .ses)) (k s p))
+follow-goes : (k : St → Phase → Out) (s : St) (t : Then) → Inv s → NarrowThen (s .ses .capacity) t → ((p : Phase) → NarrowPhase (s .ses .capacity) p → Goes (frameOf (s .ses)) (k s p))
     → Goes (frameOf (s .ses)) (onHop k (followed s t))
 follow-goes k s (Stop a) x n ih = told-goes s a x n
 follow-goes k s (Go p) x n ih = ih p n
 
-hop-goes : (k : St → Phase → Out) (s : St) (p : Phase) (lost : Bool) → Inv s → NarrowPhase p
-    → ((s′ : St) (q : Phase) → Inv s′ → NarrowPhase q → Goes (frameOf (s′ .ses)) (k s′ q)) → Goes (frameOf (s .ses)) (onHop k (hopped s p lost))
+hop-goes : (k : St → Phase → Out) (s : St) (p : Phase) (lost : Bool) → Inv s → NarrowPhase (s .ses .capacity) p
+    → ((s′ : St) (q : Phase) → Inv s′ → NarrowPhase (s′ .ses .capacity) q → Goes (frameOf (s′ .ses)) (k s′ q)) → Goes (frameOf (s .ses)) (onHop k (hopped s p lost))
 unfolding hopped
 hop-goes k s p lost x n ih =
     pick-cases (λ h. Goes (frameOf (s .ses)) (onHop k h)) (ltb (s .ses .capacity) (wants (s .ses .capacity) p))
@@ -231,36 +235,41 @@ hop-goes k s p lost x n ih =
     follow-goes k (turned s (turnOf s p)) ((turnOf s p) .then) (inv-turned s p x n l) ((fit s p x n l) .then)
     (λ q m. ih (turned s (turnOf s p)) q (inv-turned s p x n l) m)))
 
-pub pump-goes : (f : ℕ) (s : St) (p : Phase) (lost : Bool) → Inv s → NarrowPhase p → Goes (frameOf (s .ses)) (pumped f s p lost)
+pub pump-goes : (f : ℕ) (s : St) (p : Phase) (lost : Bool) → Inv s → NarrowPhase (s .ses .capacity) p → Goes (frameOf (s .ses)) (pumped f s p lost)
 unfolding pumped
 pump-goes zero s p lost x n = asked-goes s p lost x n
 pump-goes (suc f) s p lost x n = hop-goes (λ s′ q. pumped f s′ q lost) s p lost x n (λ s′ q x′ n′. pump-goes f s′ q lost x′ n′)
 
 -- ---- writing
 
-piece-goes : (s : St) (q : Request) (from n k : ℕ) → Inv s → NarrowRequest q → U64 from → U64 n → U64 (k + 1)
+-- n bytes of what is lent, from `from` on
+abbrev Carries : Session → (from n : ℕ) → Type 0
+Carries s from n = 0 < n → from + n ≤ s .lent
+
+piece-goes : (s : St) (q : Request) (from n k : ℕ) → Inv s → NarrowRequest q → U64 from → startsIn q from ≡ true → Carries (s .ses) from n → U64 (k + 1)
     → Goes (frameOf (s .ses)) (out (sendPiece (s .ses) q from n k) (s .rx) (s .msg))
-piece-goes s q from n k x r f h i = go (pieceOf q n k) (piece-narrow q r n k)
+piece-goes s q from n k x r f b h i = go (pieceOf q n k) (piece-narrow q r n k)
   where
     y : Inv (st (at (s .ses) (s .ses .buf) (Writing q from (k + 1))) (s .rx) (s .msg))
-    y = inv-pending s _ x (r, (f, i))
+    y = inv-pending s _ x (r, (f, i), b)
 
-    go : (p : Piece) → NarrowPiece p
+    go : (p : Piece) → NarrowPiece n p
         → Goes (frameOf (s .ses)) (out (stepped (at (s .ses) (s .ses .buf) (Writing q from (k + 1))) (pieceReply from n p)) (s .rx) (s .msg))
     go (P.Header id arg) m = record { inv = y; reply = m; given = refl; frame = refl; asked = writes-bytes }
-    go P.Lent m = record { inv = y; reply = (f, h); given = refl; frame = refl; asked = writes-lent }
+    go P.Lent m = record { inv = y; reply = h m; given = refl; frame = refl; asked = writes-lent }
     go P.Comma m = record { inv = y; reply = m; given = refl; frame = refl; asked = writes-bytes }
     go (P.Digits d) m = record { inv = y; reply = m; given = refl; frame = refl; asked = writes-bytes }
     go (P.Inner id) m = record { inv = y; reply = m; given = refl; frame = refl; asked = writes-bytes }
     go (P.Word z) m = record { inv = y; reply = m; given = refl; frame = refl; asked = writes-bytes }
     go P.End m = record { inv = y; reply = m; given = refl; frame = refl; asked = writes-bytes }
 
-message-goes : (s : St) (q : Request) (from : ℕ) (part : List ℕ) → Inv s → NarrowRequest q → U64 from → U64 (length part)
+message-goes : (s : St) (q : Request) (from : ℕ) (part : List ℕ) → Inv s → NarrowRequest q → U64 from → startsIn q from ≡ true
+    → Carries (s .ses) from (length part)
     → Goes (frameOf (s .ses)) (beside (messageOut (s .ses) (s .rx) q from part) (s .msg))
 unfolding messageOut
-message-goes s q from part x r f h =
+message-goes s q from part x r f b h =
     pick-cases (λ y. Goes (frameOf (s .ses)) (beside y (s .msg))) (leb (t .ses .buf .tail + length m) (length (t .rx)))
-    (λ e. whole (leb-true _ _ e)) (λ e. piece-goes t q from (length part) 0 (inv-tidied s x) r f h (omega arith))
+    (λ e. whole (leb-true _ _ e)) (λ e. piece-goes t q from (length part) 0 (inv-tidied s x) r f b h (omega arith))
   where
     t : St
     t = tidied s
@@ -281,7 +290,7 @@ message-goes s q from part x r f h =
             good = good-at t (t .ses .buf) (over (t .rx) (t .ses .buf .tail) m) (s .msg) _ g (g .order) (g .inside) (over-length (t .rx) (t .ses .buf .tail) m l) refl;
             wide = x .wide;
             lent = x .lent;
-            pending = (r, (f, omega arith));
+            pending = (r, (f, omega arith), b);
             bytes = subst Bytes (sym (window-keeps (t .rx) (t .ses .buf) (sound-of t g) m l)) (y .bytes);
           };
           reply = omega arith;
@@ -290,27 +299,38 @@ message-goes s q from part x r f h =
           asked = writes-rx;
         })
 
-pub sent-goes : (s : St) (q : Request) (from : ℕ) (part : List ℕ) → Inv s → NarrowRequest q → U64 from → U64 (length part)
+pub sent-goes : (s : St) (q : Request) (from : ℕ) (part : List ℕ) → Inv s → NarrowRequest q → U64 from → startsIn q from ≡ true
+    → Carries (s .ses) from (length part)
     → Goes (frameOf (s .ses)) (beside (sent (s .ses) (s .rx) q from part) (s .msg))
 unfolding sent
-sent-goes s Q.Stat from part x r f h = message-goes s Q.Stat from part x r f h
-sent-goes s Q.Sta2 from part x r f h = message-goes s Q.Sta2 from part x r f h
-sent-goes s Q.List from part x r f h = message-goes s Q.List from part x r f h
-sent-goes s Q.Lis2 from part x r f h = message-goes s Q.Lis2 from part x r f h
-sent-goes s Q.Recv from part x r f h = message-goes s Q.Recv from part x r f h
-sent-goes s (Q.Rcv2 y) from part x r f h = message-goes s (Q.Rcv2 y) from part x r f h
-sent-goes s (Q.Send m) from part x r f h = message-goes s (Q.Send m) from part x r f h
-sent-goes s (Q.Snd2 m y) from part x r f h = message-goes s (Q.Snd2 m y) from part x r f h
-sent-goes s Q.Data from part x r f h =
-    pick-cases (λ y. Goes (frameOf (s .ses)) (beside y (s .msg))) (eqb (length part) 0) (λ e. told-goes s A.Done x (tt, refl)) (λ e. message-goes s Q.Data from part x r f h)
-sent-goes s (Q.Done t) from part x r f h = piece-goes s (Q.Done t) 0 0 0 x r (omega arith) (omega arith) (omega arith)
-sent-goes s Q.Quit from part x r f h = piece-goes s Q.Quit 0 0 0 x r (omega arith) (omega arith) (omega arith)
+sent-goes s Q.Stat from part x r f b h = message-goes s Q.Stat from part x r f b h
+sent-goes s Q.Sta2 from part x r f b h = message-goes s Q.Sta2 from part x r f b h
+sent-goes s Q.List from part x r f b h = message-goes s Q.List from part x r f b h
+sent-goes s Q.Lis2 from part x r f b h = message-goes s Q.Lis2 from part x r f b h
+sent-goes s Q.Recv from part x r f b h = message-goes s Q.Recv from part x r f b h
+sent-goes s (Q.Rcv2 y) from part x r f b h = message-goes s (Q.Rcv2 y) from part x r f b h
+sent-goes s (Q.Send m) from part x r f b h = message-goes s (Q.Send m) from part x r f b h
+sent-goes s (Q.Snd2 m y) from part x r f b h = message-goes s (Q.Snd2 m y) from part x r f b h
+sent-goes s Q.Data from part x r f b h =
+    pick-cases (λ y. Goes (frameOf (s .ses)) (beside y (s .msg))) (eqb (length part) 0) (λ e. told-goes s A.Done x (tt, refl)) (λ e. message-goes s Q.Data from part x r f b h)
+sent-goes s (Q.Done t) from part x r f b h = piece-goes s (Q.Done t) 0 0 0 x r (omega arith) refl (λ z. omega arith) (omega arith)
+sent-goes s Q.Quit from part x r f b h = piece-goes s Q.Quit 0 0 0 x r (omega arith) refl (λ z. omega arith) (omega arith)
 
 pub closing-goes : (s : St) (failed : Bool) (code : ℕ) → Inv s → U32 code → Goes (frameOf (s .ses)) (closingOut s failed code)
 closing-goes s failed code x n = record { inv = inv-pending s _ x n; reply = tt; given = refl; frame = refl; asked = closes }
 
+-- what is carried lies in what is lent
+pub carried-in : (q : Request) (from : ℕ) (lent : List ℕ) → startsIn q from ≡ true → 0 < length (carried q from lent) → from + length (carried q from lent) ≤ length lent
+unfolding carried
+carried-in q from lent b = go (isData q) b
+  where
+    go : (d : Bool) → (d || eqb from 0) ≡ true → 0 < length (pick d (take dataMost (drop from lent)) lent)
+        → from + length (pick d (take dataMost (drop from lent)) lent) ≤ length lent
+    go true e h = omega (arith, length-take dataMost (drop from lent), length-drop from lent)
+    go false e h = omega (arith, eqb-true from 0 e)
+
 -- a message was accepted whole, or a piece of it; lent is what the call lends
-module _ (s : St) (from : ℕ) (lent : List ℕ) (x : Inv s) (f : U64 from) (h : U64 (length lent)) where
+module _ (s : St) (from : ℕ) (lent : List ℕ) (x : Inv s) (f : U64 from) (h : length lent ≡ s .ses .lent) where
   resumed-goes : (q : Request) → Goes (frameOf (s .ses)) (resumed s q from lent)
   unfolding resumed carried
   resumed-goes Q.Stat = pump-goes 4 s (Header (W.Stat V1)) false x tt
@@ -324,19 +344,15 @@ module _ (s : St) (from : ℕ) (lent : List ℕ) (x : Inv s) (f : U64 from) (h :
   resumed-goes Q.Data =
       let n : ℕ = from + length (take dataMost (drop from lent)) in
       sent-goes s Q.Data n (take dataMost (drop n lent)) x tt
-      (omega (arith, length-take dataMost (drop from lent), length-drop from lent)) (omega (arith, length-take dataMost (drop n lent), length-drop n lent))
+      (omega (arith, x .lent, length-take dataMost (drop from lent), length-drop from lent)) refl
+      (λ z. rw (← h) (carried-in Q.Data n lent refl z))
   resumed-goes (Q.Done t) = pump-goes 4 (tidied s) (Header W.Okay) false (inv-tidied s x) tt
   resumed-goes Q.Quit = closing-goes s false 0 x (omega arith)
 
-  pub carried-fits : (q : Request) → U64 (length (carried q from lent))
-  unfolding carried
-  carried-fits q =
-      let m : U64 (length (take dataMost (drop from lent))) = omega (arith, length-take dataMost (drop from lent), length-drop from lent) in
-      pick-cases (λ (l : List ℕ). U64 (length l)) (isData q) (λ e. m) (λ e. h)
-
-  pub wrote-on-goes : (q : Request) (k : ℕ) → NarrowRequest q → Goes (frameOf (s .ses)) (wroteOn s q from k lent)
+  pub wrote-on-goes : (q : Request) (k : ℕ) → NarrowRequest q → startsIn q from ≡ true → Goes (frameOf (s .ses)) (wroteOn s q from k lent)
   unfolding wroteOn
-  wrote-on-goes q k r =
+  wrote-on-goes q k r b =
       pick-cases (Goes (frameOf (s .ses))) (eqb k 0) (λ e. resumed-goes q)
       (λ e. pick-cases (Goes (frameOf (s .ses))) (isEnd (pieceOf q (length (carried q from lent)) k)) (λ g. resumed-goes q)
-      (λ g. piece-goes s q from (length (carried q from lent)) k x r f (carried-fits q) (omega (arith, piece-early q (length (carried q from lent)) k g))))
+      (λ g. piece-goes s q from (length (carried q from lent)) k x r f b (λ z. omega (arith, carried-in q from lent b z))
+      (omega (arith, piece-early q (length (carried q from lent)) k g))))

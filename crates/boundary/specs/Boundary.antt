@@ -1,21 +1,21 @@
 -- The exported functions as a system: what demand 3 is claimed of.
 -- Assumes nothing.
-use Prim.Native.Nat.{ℕ}
-use mathlib.Core.List.{List, []}
+use Prim.Native.Nat.{ℕ, suc, _≤_, _<_, _^_}
+use mathlib.Core.List.{List}
 use mathlib.Core.Path.{_≡_}
-use lib.ListN.{length, replicate}
+use lib.ListN.{length}
 use Rattle.protocol.specs.Answers.{End, closed, error}
 use Rattle.protocol.specs.Calls.{Version, v1, v2, Call, call, nextEntry, nextChunk}
 use Rattle.protocol.specs.Messages.{PathOnly, stat, sta2, list, lis2, recv, Request, ask, rcv2, send, snd2, chunk, done, quit}
 use Rattle.record.specs.Record.{wordOf, size}
 use Rattle.recv_buf.specs.RecvBuf.{cursor, heldBytes}
 use Rattle.session.specs.Demand3.{System, Opened}
-use Rattle.session.specs.Host.{Engine, Step, lentOf}
+use Rattle.session.specs.Host.{Spare, Engine, Step, lentOf}
 use Rattle.boundary.specs.Crossing.{Crossed, OpenCrossed, crossOpen, crossStart, crossRead, crossWrote, crossFault}
 use Rattle.boundary.specs.Heard.{heard}
 use Rattle.boundary.specs.Told.{outSize}
 
--- the number of a call, and its two numbers: the mode or the time, the flags
+-- the number of a call, and its two numbers: the mode or the time, the flags; any number where a call takes none
 abbrev pub askNumber : PathOnly → ℕ
 askNumber stat = 1
 askNumber sta2 = 2
@@ -35,40 +35,36 @@ callNumber (nextEntry v1) = 12
 callNumber (nextEntry v2) = 13
 callNumber nextChunk = 14
 
-abbrev pub firstNumber : Call → ℕ
-firstNumber (call (ask i p)) = 0
-firstNumber (call (rcv2 p f)) = 0
-firstNumber (call (send p m)) = m
-firstNumber (call (snd2 p m f)) = m
-firstNumber (call (chunk x)) = 0
-firstNumber (call (done t)) = t
-firstNumber (call quit) = 0
-firstNumber (nextEntry v) = 0
-firstNumber nextChunk = 0
+abbrev pub firstNumber : Spare → Call → ℕ
+firstNumber z (call (ask i p)) = z .first
+firstNumber z (call (rcv2 p f)) = z .first
+firstNumber z (call (send p m)) = m
+firstNumber z (call (snd2 p m f)) = m
+firstNumber z (call (chunk x)) = z .first
+firstNumber z (call (done t)) = t
+firstNumber z (call quit) = z .first
+firstNumber z (nextEntry v) = z .first
+firstNumber z nextChunk = z .first
 
-abbrev pub flagNumber : Call → ℕ
-flagNumber (call (ask i p)) = 0
-flagNumber (call (rcv2 p f)) = f
-flagNumber (call (send p m)) = 0
-flagNumber (call (snd2 p m f)) = f
-flagNumber (call (chunk x)) = 0
-flagNumber (call (done t)) = 0
-flagNumber (call quit) = 0
-flagNumber (nextEntry v) = 0
-flagNumber nextChunk = 0
+abbrev pub flagNumber : Spare → Call → ℕ
+flagNumber z (call (ask i p)) = z .second
+flagNumber z (call (rcv2 p f)) = f
+flagNumber z (call (send p m)) = z .second
+flagNumber z (call (snd2 p m f)) = f
+flagNumber z (call (chunk x)) = z .second
+flagNumber z (call (done t)) = z .second
+flagNumber z (call quit) = z .second
+flagNumber z (nextEntry v) = z .second
+flagNumber z nextChunk = z .second
 
--- the kind and the code of a fault
-abbrev pub endKind : End → ℕ
-endKind closed = 0
-endKind (error c) = 1
+-- the kind and the code of a fault: kind 0 and any code where the channel is closed, any other kind for an error
+abbrev pub endKind : Spare → End → ℕ
+endKind z closed = 0
+endKind z (error c) = suc (z .kind)
 
-abbrev pub endCode : End → ℕ
-endCode closed = 0
-endCode (error c) = c
-
--- a slice for the reply
-abbrev pub blank : List ℕ
-blank = replicate outSize 0
+abbrev pub endCode : Spare → End → ℕ
+endCode z closed = z .code
+endCode z (error c) = c
 
 abbrev pub stepOf : Crossed → Step (List ℕ)
 stepOf c = record { x = c .rec; rx = c .rx; msg = c .msg; show = heard (c .number) (c .out) (c .rx) (c .msg) }
@@ -76,10 +72,10 @@ stepOf c = record { x = c .rec; rx = c .rx; msg = c .msg; show = heard (c .numbe
 abbrev pub exported : Engine (List ℕ)
 exported =
     record {
-      start = λ rec rx msg q. stepOf (crossStart rec rx msg (lentOf q) (callNumber q) (firstNumber q) (flagNumber q) blank);
-      onRead = λ rec rx msg lent k. stepOf (crossRead rec rx msg lent k blank);
-      onWrote = λ rec rx msg lent. stepOf (crossWrote rec rx msg lent blank);
-      onFault = λ rec rx msg lent e. stepOf (crossFault rec rx msg lent (endKind e) (endCode e) blank);
+      start = λ rec rx msg q z. stepOf (crossStart rec rx msg (lentOf z q) (callNumber q) (firstNumber z q) (flagNumber z q) (z .out));
+      onRead = λ rec rx msg lent k z. stepOf (crossRead rec rx msg lent k (z .out));
+      onWrote = λ rec rx msg lent z. stepOf (crossWrote rec rx msg lent (z .out));
+      onFault = λ rec rx msg lent e z. stepOf (crossFault rec rx msg lent (endKind z e) (endCode z e) (z .out));
       holds = λ rec rx. heldBytes rx (cursor (wordOf rec 2) (wordOf rec 3));
       tail = λ rec. wordOf rec 3;
     }
@@ -87,11 +83,13 @@ exported =
 abbrev pub openedBy : OpenCrossed → Opened (List ℕ)
 openedBy o = record { number = o .number; x = o .rec }
 
--- any record of the right length may stand there
+-- Any record of the right length may stand there. A reply goes to any slice of 112 bytes or more, whatever stands in it; a call that takes
+-- neither path nor data lends any slice.
 abbrev pub boundary : System (List ℕ)
 boundary =
     record {
       engine = exported;
       opened = λ rec banner rx msg. openedBy (crossOpen rec banner (length rx) (length msg));
       place = λ rec. length rec ≡ size;
+      lends = λ z. (outSize ≤ length (z .out)) × (length (z .lent) < 2 ^ 64);
     }

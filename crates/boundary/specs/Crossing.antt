@@ -14,7 +14,7 @@ use Rattle.record.specs.Record.{stored, loaded, size}
 use Rattle.request.specs.declared.Request.{Request}
 use Rattle.request.specs.declared.Request.the-variants as Q
 use Rattle.session.specs.Core.{featuresFrom}
-use Rattle.session.specs.Calls.{fresh, openRefusal, unless, refusalOf, startCall, entryCall, chunkCall}
+use Rattle.session.specs.Calls.{fresh, openRefusal, refusedOr, refusalOf, startCall, entryCall, chunkCall}
 use Rattle.session.specs.Reports.{reportRead, reportWrote, reportFault, refusalAt}
 use Rattle.session.specs.State as S
 use Rattle.session.specs.State.{St, st, Out, refusing}
@@ -112,7 +112,7 @@ callNumbered n a b s lent (some q) other = startCall s q lent
 callNumbered n a b s lent none other = stepNumbered n s lent other
 
 abbrev pub unknownCall : St → Out
-unknownCall s = unless (refusalOf s) s (S.out (refusing (s .ses) (A.Refused 5)) (s .rx) (s .msg))
+unknownCall s = refusedOr (refusalOf s) s (S.out (refusing (s .ses) (A.Refused 5)) (s .rx) (s .msg))
 
 unfoldable pub crossStart : (rec rx msg lent : List ℕ) → (call a b : ℕ) → (out : List ℕ) → Crossed
 crossStart rec rx msg lent n a b out =

@@ -2,3 +2,4 @@ pub mod Told
 pub mod Crossing
 pub mod Heard
 pub mod Boundary
+pub mod Crossings

@@ -15,7 +15,7 @@ use lib.ListN.{length}
 use Rattle.protocol.specs.Bytes.{bytesOf, le}
 use Rattle.format_record.specs.declared.StatV1.{StatV1}
 use Rattle.format_record.specs.declared.StatV2.{StatV2}
-use Rattle.piece.specs.Pieces.{byValue}
+use Rattle.request_piece.specs.Pieces.{byValue}
 use Rattle.record.specs.Fields.{unsigned}
 use Rattle.record.specs.Record.{words}
 use Rattle.session.specs.declared.Answer.{Answer}

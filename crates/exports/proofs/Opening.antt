@@ -9,9 +9,9 @@ use lib.ListN.{length}
 use Rattle.protocol.specs.Bytes.{pick}
 use Rattle.protocol.specs.Features.{featuresOf}
 use Rattle.boundary.specs.Crossing.{OpenCrossed, crossOpen}
-use Rattle.calls.specs.Opening.{opened}
-use Rattle.calls.specs.declared.Opened.{Opened}
-use Rattle.calls.specs.declared.Opened.the-variants as O
+use Rattle.session_calls.specs.Opening.{opened}
+use Rattle.session_calls.specs.declared.Opened.{Opened}
+use Rattle.session_calls.specs.declared.Opened.the-variants as O
 use Rattle.record.specs.Record.{size, stored}
 use Rattle.session.specs.Calls.{fresh, openRefusal}
 use Rattle.session.specs.Core.{featuresFrom}

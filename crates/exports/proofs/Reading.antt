@@ -18,10 +18,10 @@ use Rattle.session.specs.State.{st, Out}
 use Rattle.session.specs.declared.Reply.{Reply}
 use Rattle.session.specs.declared.Reply.the-variants as R
 use Rattle.session.specs.declared.Session.{Session}
-use Rattle.short_read.proofs.Tails.{Short, short-of, long-of}
-use Rattle.short_read.specs.Short.{shortIn}
-use Rattle.anew.specs.Anew.{readAnew}
-use Rattle.anew.proofs.Crossings.{cross-short}
+use Rattle.fast_read.proofs.Tails.{Short, short-of, long-of}
+use Rattle.fast_read.specs.Short.{shortIn}
+use Rattle.boundary_slow_path.specs.Slow.{slowRead}
+use Rattle.boundary_slow_path.proofs.Crossings.{cross-short}
 
 -- t is the tail that the record's numbers say
 module _ (rec rx msg lent out : List ℕ) (k t : ℕ) (e : t ≡ shortIn (loaded rec) (length rx) (length msg) (length lent) k) where
@@ -51,9 +51,9 @@ module _ (rec rx msg lent out : List ℕ) (k t : ℕ) (e : t ≡ shortIn (loaded
           ∙ rw (le-ltb (length out) outSize l, z .held, z .short, ← (z .tail))
 
   -- a read that does not leave its need short
-  pub read-anew : t ≡ 0 → readAnew rec rx msg lent k out ≡ crossRead rec rx msg lent k out
-  unfolding readAnew crossRead
-  read-anew h = ap (pick (ltb (length out) outSize) (turnedAway rec rx msg out)) (go (loaded rec) e)
+  pub slow-read : t ≡ 0 → slowRead rec rx msg lent k out ≡ crossRead rec rx msg lent k out
+  unfolding slowRead crossRead
+  slow-read h = ap (pick (ltb (length out) outSize) (turnedAway rec rx msg out)) (go (loaded rec) e)
     where
       go : (o : Option Session) → t ≡ shortIn o (length rx) (length msg) (length lent) k
           → onLoaded rec rx msg out (λ s. back rec out (reportRead s (length lent) k)) o ≡ onLoaded rec rx msg out (λ s. backRead rec out s (length lent) k) o
@@ -61,6 +61,6 @@ module _ (rec rx msg lent out : List ℕ) (k t : ℕ) (e : t ≡ shortIn (loaded
       go (some s) f = let i : stays (st s rx msg) (length lent) k ≡ false = long-of (length rx) (length msg) (length lent) k t s f (omega arith) in rw i
 
 -- a slice too short for a reply
-pub read-away : (rec rx msg lent out : List ℕ) (k : ℕ) → length out < outSize → readAnew rec rx msg lent k out ≡ crossRead rec rx msg lent k out
-unfolding readAnew crossRead
+pub read-away : (rec rx msg lent out : List ℕ) (k : ℕ) → length out < outSize → slowRead rec rx msg lent k out ≡ crossRead rec rx msg lent k out
+unfolding slowRead crossRead
 read-away rec rx msg lent out k h = sym (cross-short rec rx msg out _ h) ∙ cross-short rec rx msg out _ h

@@ -3,32 +3,30 @@ ghost use mathlib.Core.Path.{_≡_};
 ghost use lib.ListN.{length};
 ghost use Rattle.boundary.specs.Crossing.{crossed, crossOpen, crossStart, crossRead, crossWrote, crossFault};
 ghost use Rattle.record.specs.Record.{loaded};
-ghost use Rattle.short_read.specs.Short.{shortIn};
+ghost use Rattle.fast_read.specs.Short.{shortIn};
 ghost use Rattle.exports.specs.Opened.{openCrossed};
-use anew::fault_anew;
-use anew::read_anew;
-use anew::start_anew;
-use anew::wrote_anew;
-use calls::Opened;
-use calls::open;
-use direct::entry;
-use direct::stat;
-use direct_chunk::body;
-use direct_chunk::header;
-use direct_chunk::next;
-use direct_data::header_out;
-use direct_data::part_out;
-use direct_data::whole_out;
-use direct_path::request;
-use direct_request::sent;
+use boundary::REPLY;
+use boundary_reply::put_two;
+use boundary_slow_path::slow_fault;
+use boundary_slow_path::slow_read;
+use boundary_slow_path::slow_start;
+use boundary_slow_path::slow_wrote;
+use fast_pull::body;
+use fast_pull::header;
+use fast_pull::next;
+use fast_push::header_out;
+use fast_push::part_out;
+use fast_push::whole_out;
+use fast_read::short_tail;
+use fast_replies::entry;
+use fast_replies::stat;
+use fast_request::request;
+use fast_sent::sent;
 use record::SIZE;
 use record_store::store;
 use record_store::store_tail;
-use reply::put_two;
-use short_read::short_tail;
-
-// The longest reply: a slice shorter than it is turned away.
-const REPLY: usize = 112;
+use session_calls::Opened;
+use session_calls::open;
 
 // What a step that goes the short way asks or tells.
 const TOLD: u32 = 0;
@@ -75,7 +73,7 @@ fn start_next(
     if next(rec, rx, msg, lent, call, out) {
         return READ;
     }
-    start_anew(rec, rx, msg, lent, call, a, b, out)
+    slow_start(rec, rx, msg, lent, call, a, b, out)
 }
 
 // Starts a call by its number, 1 to 14: a is its mode or its time, b its flags. What can be taken on the record's numbers goes the short way.
@@ -119,7 +117,7 @@ fn read_met(
     if header(rec, rx, msg, lent, count, out) {
         return READ;
     }
-    read_anew(rec, rx, msg, lent, count, out)
+    slow_read(rec, rx, msg, lent, count, out)
 }
 
 // count bytes were read into the window. Where they leave the need short, only tail is loaded and stored.
@@ -138,7 +136,7 @@ fn read_short(
         return read_met(rec, rx, msg, lent, count, out);
     }
     if out.len() < REPLY {
-        return read_anew(rec, rx, msg, lent, count, out);
+        return slow_read(rec, rx, msg, lent, count, out);
     }
     let len = rx.len() - tail;
     store_tail(rec, tail);
@@ -177,7 +175,7 @@ fn wrote_data(rec: &mut [u8], rx: &mut [u8], msg: &mut [u8], lent: &[u8], out: &
     if whole_out(rec, rx, msg, lent, out) {
         return WRITE_RX;
     }
-    wrote_anew(rec, rx, msg, lent, out)
+    slow_wrote(rec, rx, msg, lent, out)
 }
 
 // The same. A stat whose message is out awaits its reply the short way.
@@ -210,5 +208,5 @@ pub extern "C" fn yuglasno_fault(
 ) -> u32
     ensures { λ r. ⌜ crossed (now (rec .exit)) (now (rx .exit)) (now (msg .exit)) (now (out .exit)) r ≡ crossFault (now (rec .entry)) (now (rx .entry)) (now (msg .entry)) (now (lent .entry)) kind code (now (out .entry)) ⌝ }
 {
-    fault_anew(rec, rx, msg, lent, kind, code, out)
+    slow_fault(rec, rx, msg, lent, kind, code, out)
 }

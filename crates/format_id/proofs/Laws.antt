@@ -11,10 +11,10 @@ use lib.Dec.{eqb}
 use lib.ListN.{length}
 use lib.Seq.{take-all}
 use Rattle.protocol.specs.Bytes.{pick, Bytes, le, same, numberAt, whole}
-use Rattle.protocol.specs.Ids.{Id, Dialect, all, letters, published, among, named}
+use Rattle.protocol.specs.Ids.{Sound, Id, Dialect, all, letters, published, among, named}
 use Rattle.protocol.specs.Records.{u32At}
 use Rattle.protocol.proofs.Bytes.{bytesOf-le, same-refl, same-eq, whole-in}
-use Rattle.protocol.proofs.Ids.{Sound, published-sound}
+use Rattle.protocol.proofs.Ids.{published-sound}
 
 -- as many bytes that spell the same number are the same
 le-eq : (a b : List ℕ) → length a ≡ length b → Bytes a → Bytes b → le a ≡ le b → a ≡ b

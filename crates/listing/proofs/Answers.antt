@@ -10,14 +10,15 @@ use lib.ListN.{length, take, drop, length-drop}
 use lib.Seq.{length-take-le}
 use Rattle.protocol.specs.Answers as P
 use Rattle.protocol.specs.Bytes.{pick, same}
-use Rattle.protocol.specs.Calls.{v1, nextEntry, refusal}
+use Rattle.protocol.specs.Calls.{v1, nextEntry}
+use Rattle.protocol.specs.Refusal.{refusal}
 use Rattle.protocol.specs.Ids.{Id, published, FAIL, DENT, DONE}
-use Rattle.protocol.specs.Reader.{Prog, answer, need, skip, Result, ended, short, plain, drain, accepted, written, reply, plainCall, entryWays, next, nextOn, among, failing, taking, nameLength, entryAnswer}
+use Rattle.protocol.specs.Reader.{Prog, answer, need, skip, Result, ended, short, plain, drain, accepted, written, reply, plainCall, entryWays, next, nextOn, amongWays, failing, taking, nameLength, entryAnswer}
 use Rattle.protocol.specs.Records.{idAt, argAt}
 use Rattle.format_record.specs.Told.{toldStat, toldStat2}
 use Rattle.format_record.specs.declared.StatV1.{StatV1}
-use Rattle.lines.specs.Lines.{endLine}
-use Rattle.part.specs.Part.{handed}
+use Rattle.listing_lines.specs.Lines.{endLine}
+use Rattle.session_part.specs.Part.{handed}
 use Rattle.session.specs.Shown.{partOf, paper}
 use Rattle.session.specs.declared.Answer.{Answer}
 use Rattle.session.specs.declared.Answer.the-variants as A
@@ -95,7 +96,7 @@ module _ (c : ℕ) (u : List ℕ) where
       let is : Id → Bool = λ i. same (idAt h) (published .bytes i) in
       let last : Prog = taking 20 (λ x. answer P.end) in
       let other : Prog = answer (P.unexpected (idAt h)) in
-      pick-comes (is FAIL) (failing c (argAt h)) (among published (entryWays v1) h (P.unexpected (idAt h))) u (fail-comes (argAt h) u)
+      pick-comes (is FAIL) (failing c (argAt h)) (amongWays published (entryWays v1) h (P.unexpected (idAt h))) u (fail-comes (argAt h) u)
       (pick-comes (is DENT) dent (pick (is DONE) last other) u dent-comes
       (pick-comes (is DONE) last other u (taking-comes 20 (λ x. answer P.end) u (λ i. tt)) tt)))
 

@@ -9,9 +9,9 @@ use Rattle.protocol.specs.Answers as P
 use Rattle.protocol.specs.Reader.{Reply, plainAnswers}
 use Rattle.format_record.specs.Told.{toldStat}
 use Rattle.format_record.specs.declared.StatV1.{StatV1}
-use Rattle.lines.specs.Lines.{entryLine, endLine, laidIn, entryRoom, endRoom, Laid}
-use Rattle.lines.proofs.Laws.{laid-none, laid-length, laid-laid, laid-of, entry-length, end-length}
-use Rattle.part.specs.Part.{handed}
+use Rattle.listing_lines.specs.Lines.{entryLine, endLine, laidIn, entryRoom, endRoom, Laid}
+use Rattle.listing_lines.proofs.Laws.{laid-none, laid-length, laid-laid, laid-of, entry-length, end-length}
+use Rattle.session_part.specs.Part.{handed}
 use Rattle.session.specs.declared.Answer.{Answer}
 use Rattle.session.specs.declared.Session.{Session}
 use Rattle.session.specs.declared.Version.the-variants.{V1}

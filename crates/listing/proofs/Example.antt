@@ -4,11 +4,11 @@ use mathlib.Core.Path.{_≡_, refl}
 use Prim.Native.Nat.{ℕ}
 use lib.ListN.{replicate}
 use Rattle.protocol.specs.Bytes.{ascii, bytesOf, numberAt}
-use Rattle.protocol.specs.Calls.{refusal}
+use Rattle.protocol.specs.Refusal.{refusal}
 use Rattle.protocol.specs.Decimal.{decimal}
 use Rattle.protocol.specs.Reader.{plain, plainAnswers, written}
 use Rattle.protocol.specs.Records.{statAt, dentAt}
-use Rattle.lines.specs.Lines.{octal, hexDigit, newline, heading, entryLine, endLine}
+use Rattle.listing_lines.specs.Lines.{octal, hexDigit, newline, heading, entryLine, endLine}
 use Rattle.listing.specs.Listing.{lined, listed, printed}
 
 -- DENT, mode 33188, size 1998, mtime 5, namelen 3, "T98", then DONE and 16 zeros

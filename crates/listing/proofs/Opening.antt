@@ -5,9 +5,9 @@ use mathlib.Core.Path.{_≡_}
 use native.Mathlib.Omega.{arith}
 use borrow.Author.Tests.{le-ltb}
 use Rattle.protocol.specs.Features.{featuresOf}
-use Rattle.calls.specs.Opening.{opened}
-use Rattle.calls.specs.declared.Opened.{Opened}
-use Rattle.calls.specs.declared.Opened.the-variants as O
+use Rattle.session_calls.specs.Opening.{opened}
+use Rattle.session_calls.specs.declared.Opened.{Opened}
+use Rattle.session_calls.specs.declared.Opened.the-variants as O
 use Rattle.session.specs.Calls.{fresh, openRefusal}
 use Rattle.session.specs.Core.{featuresFrom}
 use Rattle.session.specs.declared.Session.{Session}

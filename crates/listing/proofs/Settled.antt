@@ -12,7 +12,8 @@ use lib.ListN.{length, take, drop, length-drop, take-append-drop, drop-of-length
 use lib.Seq.{length-take-le}
 use Rattle.protocol.specs.Answers.{broken, error}
 use Rattle.protocol.specs.Bytes.{over}
-use Rattle.protocol.specs.Calls.{v1, nextEntry, refusal}
+use Rattle.protocol.specs.Calls.{v1, nextEntry}
+use Rattle.protocol.specs.Refusal.{refusal}
 use Rattle.protocol.specs.Ids.{published}
 use Rattle.protocol.specs.Reader.{Prog, Result, plain, entryWays, next, written, accepted, program, reply, plainCall}
 use Rattle.session.specs.declared.Answer.{Answer}

@@ -8,7 +8,7 @@ use Rattle.protocol.specs.Answers.{Answer, error, number}
 use Rattle.protocol.specs.Calls.{Call, v1, nextEntry}
 use Rattle.protocol.specs.Reader.{Config, accepted, plainAnswers}
 use Rattle.session.specs.Demand3.{reader}
-use Rattle.lines.specs.Lines.{heading, entryLine, endLine}
+use Rattle.listing_lines.specs.Lines.{heading, entryLine, endLine}
 
 -- n listing steps
 abbrev pub steps : ℕ → List Call

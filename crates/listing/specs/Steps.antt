@@ -9,7 +9,7 @@ use Rattle.protocol.specs.Bytes.{pick}
 use Rattle.protocol.specs.Features.{featuresOf}
 use Rattle.protocol.specs.Records.{Stat}
 use Rattle.format_record.specs.declared.StatV1.{StatV1}
-use Rattle.lines.specs.Lines.{entryLine, laidIn, headingRoom, entryRoom, endRoom}
+use Rattle.listing_lines.specs.Lines.{entryLine, laidIn, headingRoom, entryRoom, endRoom}
 use Rattle.session.specs.declared.Answer.{Answer}
 use Rattle.session.specs.declared.Answer.the-variants as A
 use Rattle.session.specs.declared.Fault.the-variants as F

@@ -5,29 +5,29 @@ ghost use mathlib.Core.Path.{_≡_};
 ghost use Prim.Native.Nat.{ℕ, _≤_};
 ghost use lib.ListN.{length, take};
 ghost use Rattle.format_record.specs.Told.{toldStat};
-ghost use Rattle.lines.specs.Lines.{Laid};
-ghost use Rattle.part.specs.Part.{handed};
+ghost use Rattle.listing_lines.specs.Lines.{Laid};
+ghost use Rattle.session_part.specs.Part.{handed};
 ghost use Rattle.session.specs.Calls.{entryCall};
 ghost use Rattle.session.specs.Shown.{paper};
 ghost use Rattle.session.specs.State.{st, out};
 ghost use Rattle.listing.specs.Listing.{listed, printed};
 ghost use Rattle.listing.specs.Steps.{told, toldBy, ended, firstOut, lineOf, shown, Ready, Ample};
-use calls::Opened;
-use calls::next_entry;
-use calls::open;
 use format_record::StatV1;
 use libc::STDIN_FILENO;
 use libc::STDOUT_FILENO;
-use lines::put_end;
-use lines::put_entry;
-use lines::put_heading;
-use part::part;
+use listing_lines::put_end;
+use listing_lines::put_entry;
+use listing_lines::put_heading;
 use session::Answer;
 use session::Fault;
 use session::Reply;
 use session::Session;
 use session::Stepped;
 use session::Version;
+use session_calls::Opened;
+use session_calls::next_entry;
+use session_calls::open;
+use session_part::part;
 
 // A listing step that is over.
 struct Heard {
@@ -110,7 +110,7 @@ fn settle(step: Stepped, rx: &mut [u8], msg: &mut [u8]) -> Heard
         Reply::Told(_) => answer_of(step),
         Reply::Read { at: _, len: _ } => {
             let session = step.session;
-            answer_of(faults::fault(session, rx, msg, 0, Fault::Error(0)))
+            answer_of(session_faults::fault(session, rx, msg, 0, Fault::Error(0)))
         }
         Reply::WriteRx { at: _, len: _ } => answer_of(step),
         Reply::WriteLent { at: _, len: _ } => answer_of(step),
@@ -135,7 +135,7 @@ fn begin(s: Session, rx: &mut [u8], msg: &mut [u8], n: usize) -> Stepped
         return asked;
     }
     let session = asked.session;
-    reports::read(session, rx, msg, 0, n)
+    session_reports::read(session, rx, msg, 0, n)
 }
 
 fn first(s: Session, rx: &mut [u8], msg: &mut [u8], n: usize) -> Heard

@@ -16,13 +16,12 @@ use lib.Seq.{take-at, take-append-seam, drop-append-seam, drop-append-add, drop-
 use Rattle.protocol.specs.Bytes.{pick, Bytes, has, same, numberAt}
 use Rattle.protocol.specs.Decimal.{decimal, canonical}
 use Rattle.protocol.specs.Flags.{refusedFlags}
-use Rattle.protocol.specs.Ids.{Id, STAT, STA2, LIST, LIS2, SEND, SND2, RECV, RCV2, DATA, DONE, OKAY, FAIL, DENT, DNT2, QUIT, Dialect}
+use Rattle.protocol.specs.Ids.{Sound, Id, STAT, STA2, LIST, LIS2, SEND, SND2, RECV, RCV2, DATA, DONE, OKAY, FAIL, DENT, DNT2, QUIT, Dialect}
 use Rattle.protocol.specs.Messages.{PathOnly, stat, sta2, list, lis2, recv, pathId, Request, ask, rcv2, send, snd2, chunk, done, quit, word, messageOf, joined, bytesOfRequest, PathOk, dataMost, HostWrites}
 use Rattle.protocol.specs.Records.{headerSize}
 use Rattle.protocol.specs.Requests.{Read, more, refused, request, Kind, pathOnly, pathFlags, pathMode, pathModeFlags, bytes, time, bare, foreign, kindOf, argOk, following, badPath, commaAt, lastComma, withMode, atComma, bodyOf}
 use Rattle.protocol.proofs.Bytes.{same-refl, same-eq}
 use Rattle.protocol.proofs.Decimal.{decimal-length, decimal-has-not, canonical-decimal, decimal-canonical}
-use Rattle.protocol.proofs.Ids.{Sound}
 use Rattle.protocol.proofs.Messages.{kind-path}
 use Rattle.protocol.proofs.Words.{word-fits, word-behind, number-behind, word-there, word-last}
 

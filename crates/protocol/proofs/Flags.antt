@@ -41,7 +41,7 @@ unfolding refusedFlags
 refused-order pull f = or-assoc (pull && dryRun f) (unknown f) (several f) ∙ or-comm (pull && dryRun f) (unknown f || several f)
 
 -- flag words, and whether each is refused in a push and in a pull
-abbrev words : List (ℕ × (Bool × Bool))
+abbrev pub words : List (ℕ × (Bool × Bool))
 words =
     (0, (false, false))
     ∷ (1, (false, false))

@@ -9,18 +9,8 @@ use borrow.Author.Tests.{ltb-true}
 use lib.Dec.{ltb}
 use lib.ListN.{length}
 use Rattle.protocol.specs.Bytes.{Bytes, pick, same}
-use Rattle.protocol.specs.Ids.{Id, STAT, STA2, LIST, LIS2, SEND, SND2, RECV, RCV2, DATA, DONE, OKAY, FAIL, DENT, DNT2, QUIT, all, letters, Dialect, published, among, named}
+use Rattle.protocol.specs.Ids.{Id, STAT, STA2, LIST, LIS2, SEND, SND2, RECV, RCV2, DATA, DONE, OKAY, FAIL, DENT, DNT2, QUIT, all, letters, Dialect, published, Apart, Sound, among, named}
 use Rattle.protocol.proofs.Bytes.{same-refl, same-eq}
-
--- no two ids have the same bytes
-abbrev pub Apart : Dialect → Type 0
-Apart d = (i j : Id) → d .bytes i ≡ d .bytes j → i ≡ j
-
--- a dialect whose ids are four bytes each, and apart
-pub record Sound (d : Dialect) : Type 0 where
-  pub four : (i : Id) → length (d .bytes i) ≡ 4
-  pub bytes : (i : Id) → Bytes (d .bytes i)
-  pub apart : Apart d
 
 -- an id that is found has the bytes that were looked for
 among-sound : (d : Dialect) (is : List Id) (b : List ℕ) (i : Id) → among d is b ≡ some i → d .bytes i ≡ b

@@ -10,3 +10,12 @@ pub mod Bodies
 pub mod Requests
 pub mod Trials
 pub mod Refusals
+pub mod Unrefused
+pub mod Fact
+pub mod Replies
+pub mod Losses
+pub mod Written
+pub mod Banners
+pub mod Received
+pub mod Numbers
+pub mod Limits

@@ -9,11 +9,10 @@ use native.Mathlib.Omega.{arith}
 use lib.Dec.{leb}
 use lib.ListN.{length, length-append}
 use Rattle.protocol.specs.Bytes.{pick, bytesOf}
-use Rattle.protocol.specs.Ids.{Dialect}
+use Rattle.protocol.specs.Ids.{Sound, Dialect}
 use Rattle.protocol.specs.Messages.{PathOnly, pathId, Request, Message, stat, sta2, list, lis2, recv, ask, rcv2, send, snd2, chunk, done, quit, word, header, joined, nonempty, messageOf, bytesOfRequest, apart, pieces}
 use Rattle.protocol.specs.Records.{headerSize}
 use Rattle.protocol.specs.Requests.{kindOf, pathOnly, following}
-use Rattle.protocol.proofs.Ids.{Sound}
 
 -- empty parts carry no bytes
 pub joined-nonempty : (ps : List (List ℕ)) → joined (nonempty ps) ≡ joined ps

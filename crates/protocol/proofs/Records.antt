@@ -98,7 +98,7 @@ i64-whole s off = go (leb (off + 8) (length s))
     go false = sym (signed-low 0 (omega arith))
 
 -- Bytes and the number that they spell: four, then eight.
-abbrev spellings : List (List ℕ × ℕ)
+abbrev pub spellings : List (List ℕ × ℕ)
 spellings =
     (0x01 ∷ 0x02 ∷ 0x03 ∷ 0xf4 ∷ [], 0xf403_0201)
     ∷ (0xe8 ∷ 0x07 ∷ 0x5d ∷ 0x20 ∷ [], 542967784)
@@ -107,7 +107,7 @@ spellings =
     ∷ []
 
 -- Eight bytes and the signed number that they are: the two ends, -1, and a number of each sign.
-abbrev signs : List (List ℕ × ℤ)
+abbrev pub signs : List (List ℕ × ℤ)
 signs =
     (0xff ∷ 0xff ∷ 0xff ∷ 0xff ∷ 0xff ∷ 0xff ∷ 0xff ∷ 0xff ∷ [], negsuc 0)
     ∷ (0x00 ∷ 0x00 ∷ 0x00 ∷ 0x00 ∷ 0x00 ∷ 0x00 ∷ 0x00 ∷ 0x80 ∷ [], negsuc 0x7fff_ffff_ffff_ffff)

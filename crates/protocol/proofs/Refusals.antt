@@ -1,7 +1,7 @@
 -- `refusal` gives the answers of `specs/Refusals.antt`'s table. Assumes nothing.
 use mathlib.Core.List.{map}
 use mathlib.Core.Path.{_≡_, refl}
-use Rattle.protocol.specs.Calls.{refusal, pathRefusal, flagRefusal, featureRefusal, transferRefusal, requestRefusal}
+use Rattle.protocol.specs.Refusal.{refusal, pathRefusal, flagRefusal, featureRefusal, transferRefusal, requestRefusal}
 use Rattle.protocol.specs.Flags.{several, unknown, dryRun, refusedFlags}
 use Rattle.protocol.specs.Refusals.{Row, rows, settingAt}
 

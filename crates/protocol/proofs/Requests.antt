@@ -13,14 +13,14 @@ use lib.ListN.{length, take, drop, length-append, length-drop, take-append-drop}
 use lib.Seq.{take-at, drop-at, take-add, length-take-le}
 use Rattle.protocol.specs.Bytes.{Bytes, numberAt}
 use Rattle.protocol.specs.Headers.{Accepted, Heads, of-path, of-RCV2, of-SEND, of-SND2, of-DATA, of-DONE, of-QUIT}
-use Rattle.protocol.specs.Ids.{Id, STAT, STA2, LIST, LIS2, SEND, SND2, RECV, RCV2, DATA, DONE, OKAY, FAIL, DENT, DNT2, QUIT, Dialect, named}
+use Rattle.protocol.specs.Ids.{Id, STAT, STA2, LIST, LIS2, SEND, SND2, RECV, RCV2, DATA, DONE, OKAY, FAIL, DENT, DNT2, QUIT, Dialect, Sound, named}
 use Rattle.protocol.specs.Messages.{stat, sta2, list, lis2, recv, Request, chunk, word, messageOf, joined, bytesOfRequest, HostWrites}
 use Rattle.protocol.specs.Records.{headerSize, idAt, argAt}
 use Rattle.protocol.specs.Requests.{Read, more, refused, request, kindOf, argOk, following, bodyOf, onId, readRequest}
 use Rattle.protocol.proofs.Bodies.{Taken, pick-cases, Reads, reads, Means, means}
 use Rattle.protocol.proofs.Messages.{kind-path}
 use Rattle.protocol.proofs.Bytes.{bytes-drop}
-use Rattle.protocol.proofs.Ids.{Sound, named-own, named-sound}
+use Rattle.protocol.proofs.Ids.{named-own, named-sound}
 use Rattle.protocol.proofs.Words.{bytes-take, word-fits, word-behind, word-there}
 
 -- the reader's steps behind a header of a known id

@@ -47,6 +47,10 @@ number (unexpected i) = 15
 number (errno c) = 16
 number tooLarge = 17
 
+-- "The caller. Session and lent bytes unchanged": the numbers of these refusals
+abbrev pub callers : List ℕ
+callers = 1 ∷ 2 ∷ 3 ∷ 4 ∷ 5 ∷ 6 ∷ 7 ∷ 8 ∷ 9 ∷ 10 ∷ 11 ∷ []
+
 -- the numbers that a record carries, in the order of its offsets
 abbrev pub statNumbers : Stat → List ℤ
 statNumbers s = pos (s .mode) ∷ pos (s .size) ∷ pos (s .mtime) ∷ []

@@ -13,9 +13,9 @@ abbrev pub marker : List ℕ
 marker = ascii "features="
 
 -- what follows the first place where a list begins with m
-unfoldable pub after : List ℕ → List ℕ → Option (List ℕ)
-after m [] = pick (same m []) (some []) none
-after m (b ∷ s) = pick (same (take (length m) (b ∷ s)) m) (some (drop (length m) (b ∷ s))) (after m s)
+unfoldable pub restAfter : List ℕ → List ℕ → Option (List ℕ)
+restAfter m [] = pick (same m []) (some []) none
+restAfter m (b ∷ s) = pick (same (take (length m) (b ∷ s)) m) (some (drop (length m) (b ∷ s))) (restAfter m s)
 
 -- a comma or a semicolon
 abbrev pub separator : ℕ → Bool
@@ -36,7 +36,7 @@ inPieces name none = false
 inPieces name (some s) = someIs name (split [] s)
 
 unfoldable pub hasFeature : List ℕ → List ℕ → Bool
-hasFeature banner name = inPieces name (after marker banner)
+hasFeature banner name = inPieces name (restAfter marker banner)
 
 -- The session numbers its features 1 to 7, in this order.
 abbrev pub names : List (List ℕ)

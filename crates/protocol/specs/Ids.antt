@@ -3,7 +3,9 @@
 use Prim.Native.Nat.{ℕ}
 use mathlib.Core.List.{List, [], _∷_}
 use mathlib.Core.Option.{Option, none, some}
-use Rattle.protocol.specs.Bytes.{pick, ascii, same}
+use mathlib.Core.Path.{_≡_}
+use lib.ListN.{length}
+use Rattle.protocol.specs.Bytes.{Bytes, pick, ascii, same}
 
 pub data Id : Type 0 where
   STAT STA2 LIST LIS2 SEND SND2 RECV RCV2 DATA DONE OKAY FAIL DENT DNT2 QUIT : Id
@@ -36,6 +38,16 @@ pub record Dialect : Type 0 where
 -- the one of the public documents, and document 01's limit
 abbrev pub published : Dialect
 published = record { bytes = letters; longest = 65536 }
+
+-- no two ids have the same bytes
+abbrev pub Apart : Dialect → Type 0
+Apart d = (i j : Id) → d .bytes i ≡ d .bytes j → i ≡ j
+
+-- a dialect whose ids are four bytes each, and apart
+pub record Sound (d : Dialect) : Type 0 where
+  pub four : (i : Id) → length (d .bytes i) ≡ 4
+  pub bytes : (i : Id) → Bytes (d .bytes i)
+  pub apart : Apart d
 
 -- the first of some ids whose bytes are b
 abbrev pub among : Dialect → List Id → List ℕ → Option Id

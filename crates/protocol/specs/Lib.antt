@@ -9,6 +9,16 @@ pub mod Requests
 pub mod Headers
 pub mod Answers
 pub mod Calls
+pub mod Refusal
 pub mod Reader
 pub mod Trials
 pub mod Refusals
+pub mod Unrefused
+pub mod Fact
+pub mod Replies
+pub mod Losses
+pub mod Written
+pub mod Banners
+pub mod Received
+pub mod Numbers
+pub mod Limits

@@ -10,7 +10,8 @@ use lib.ListN.{length, take, drop}
 use Rattle.protocol.specs.Answers as A
 use Rattle.protocol.specs.Answers.{Answer, End, closed, error}
 use Rattle.protocol.specs.Bytes.{pick, same}
-use Rattle.protocol.specs.Calls.{Version, v1, v2, Call, call, nextEntry, nextChunk, Setting, refusal, messages, joinedMessages}
+use Rattle.protocol.specs.Calls.{Version, v1, v2, Call, call, nextEntry, nextChunk, messages, joinedMessages}
+use Rattle.protocol.specs.Refusal.{Setting, refusal}
 use Rattle.protocol.specs.Ids.{Id, Dialect, STAT, STA2, DATA, DONE, OKAY, FAIL, DENT, DNT2}
 use Rattle.protocol.specs.Messages.{PathOnly, stat, sta2, list, lis2, recv, Request, ask, rcv2, send, snd2, chunk, done, quit}
 use Rattle.protocol.specs.Records.{idAt, argAt, headerSize, statSize, stat2Size, dentSize, dent2Size, statAt, stat2At, dentAt, dent2At, Stat2}
@@ -49,12 +50,12 @@ pub record Way : Type 0 where
   pub on : List ℕ → Prog
 
 -- "Otherwise an id not allowed is 15 with its bytes, header left"; h is the header
-abbrev pub among : Dialect → List Way → List ℕ → Answer → Prog
-among d [] h other = answer other
-among d (w ∷ ws) h other = pick (same (idAt h) (d .bytes (w .id))) (w .on h) (among d ws h other)
+abbrev pub amongWays : Dialect → List Way → List ℕ → Answer → Prog
+amongWays d [] h other = answer other
+amongWays d (w ∷ ws) h other = pick (same (idAt h) (d .bytes (w .id))) (w .on h) (amongWays d ws h other)
 
 abbrev pub nextOn : Dialect → ℕ → List Way → (List ℕ → Answer) → List ℕ → Prog
-nextOn d c ws other h = pick (same (idAt h) (d .bytes FAIL)) (failing c (argAt h)) (among d ws h (other (idAt h)))
+nextOn d c ws other h = pick (same (idAt h) (d .bytes FAIL)) (failing c (argAt h)) (amongWays d ws h (other (idAt h)))
 
 abbrev pub next : Dialect → ℕ → List Way → Prog
 next d c ws = need headerSize (nextOn d c ws A.unexpected)
@@ -187,13 +188,13 @@ abbrev pub onReport : Config → Report → Call → Prog
 onReport g accepted q = written g q
 onReport g (broke e) q = writeBroke g e q
 
-abbrev pub unless : Option Answer → Prog → Prog
-unless (some a) p = answer a
-unless none p = p
+abbrev pub unlessRefused : Option Answer → Prog → Prog
+unlessRefused (some a) p = answer a
+unlessRefused none p = p
 
 -- a call, with r reported of its writes
 abbrev pub program : Config → Report → Call → Prog
-program g r q = unless (refusal (g .setting) q) (onReport g r q)
+program g r q = unlessRefused (refusal (g .setting) q) (onReport g r q)
 
 -- The end error E that a call meets: a push write that found the channel closed answers 12 for every other.
 abbrev pub endOf : End → Report → Call → End
@@ -241,8 +242,8 @@ isQuit (nextEntry v) = false
 isQuit nextChunk = false
 
 -- after quit the session has ended
-abbrev pub after : Config → Call → Config
-after g q =
+abbrev pub configAfter : Config → Call → Config
+configAfter g q =
     record {
       setting = record { dialect = g .setting .dialect; features = g .setting .features; ended = isQuit q || g .setting .ended };
       capacity = g .capacity;
@@ -252,8 +253,8 @@ after g q =
 -- a list of calls with all writes accepted: the answers, and W
 unfoldable pub plainAnswers : Config → End → List Call → List ℕ → List Answer
 plainAnswers g e [] u = []
-plainAnswers g e (q ∷ qs) u = plainCall g e accepted q u .answer ∷ plainAnswers (after g q) e qs (plainCall g e accepted q u .unread)
+plainAnswers g e (q ∷ qs) u = plainCall g e accepted q u .answer ∷ plainAnswers (configAfter g q) e qs (plainCall g e accepted q u .unread)
 
 unfoldable pub plainWrites : Config → List Call → List ℕ
 plainWrites g [] = []
-plainWrites g (q ∷ qs) = writes g q ++ plainWrites (after g q) qs
+plainWrites g (q ∷ qs) = writes g q ++ plainWrites (configAfter g q) qs

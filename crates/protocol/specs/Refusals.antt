@@ -7,7 +7,8 @@ use mathlib.Core.List.{List, [], _∷_, _++_, map}
 use mathlib.Core.Option.{Option, none, some}
 use Rattle.protocol.specs.Answers.{Answer, refused, missing}
 use Rattle.protocol.specs.Bytes.{ascii, has}
-use Rattle.protocol.specs.Calls.{Setting, Call, call, nextEntry, nextChunk, v1}
+use Rattle.protocol.specs.Calls.{Call, call, nextEntry, nextChunk, v1, v2}
+use Rattle.protocol.specs.Refusal.{Setting}
 use Rattle.protocol.specs.Ids.{letters}
 use Rattle.protocol.specs.Messages.{stat, sta2, list, lis2, recv, Request, ask, rcv2, send, snd2, chunk, done, quit}
 
@@ -29,38 +30,63 @@ settingAt r =
 abbrev row : List ℕ → Request → Option Answer → Row
 row features q a = record { features = features; ended = false; made = call q; paper = a }
 
--- after quit
-abbrev late : Call → Row
-late q = record { features = []; ended = true; made = q; paper = some (refused 6) }
+-- the same answer to some requests, with no feature there
+abbrev each : Option Answer → List Request → List Row
+each a qs = map (λ q. row [] q a) qs
+
+-- every request with a path, and flags that are refused
+abbrev withPath : List ℕ → List Request
+withPath p = ask stat p ∷ ask sta2 p ∷ ask list p ∷ ask lis2 p ∷ ask recv p ∷ rcv2 p 3 ∷ send p 0 ∷ snd2 p 0 3 ∷ []
+
+-- 7 before 8, 8 before 9, 9 before 10
+abbrev paths : List Row
+paths =
+    each none (ask stat (ascii "/ab") ∷ ask list (ascii "/ab") ∷ ask recv (ascii "/ab") ∷ send (ascii "/ab") 0 ∷ [])
+    ++ each (some (refused 7)) (withPath (ascii "/abc"))
+    ++ each (some (refused 7)) (withPath (0 ∷ ascii "abc"))
+    ++ each (some (refused 8)) (withPath (ascii "/a" ++ 0 ∷ []))
+    ++ each (some (refused 8)) (withPath (0 ∷ []))
+    ++ each (some (refused 9)) (rcv2 [] 3 ∷ snd2 [] 0 3 ∷ rcv2 [] 8 ∷ snd2 [] 0 8 ∷ rcv2 [] 0x8000_0000 ∷ [])
+    ++ each none (chunk (0 ∷ ascii "abc") ∷ done 0 ∷ quit ∷ [])
+
+-- a pull and a push with these flags
+abbrev both : List ℕ → (flags : ℕ) → Option Answer → List Row
+both features f a = row features (rcv2 [] f) a ∷ row features (snd2 [] 7 f) a ∷ []
+
+-- 10, "with its number: 3 first, then 4, 5, 6, 7"; the flags Brotli 1, LZ4 2, Zstd 4 and the dry run each want their own
+abbrev features : List Row
+features =
+    both [] 0 (some (missing 3))
+    ++ both (1 ∷ 2 ∷ 4 ∷ 5 ∷ 6 ∷ 7 ∷ []) 1 (some (missing 3))
+    ++ both (3 ∷ []) 0 none
+    ++ both (3 ∷ 5 ∷ 6 ∷ 7 ∷ []) 1 (some (missing 4))
+    ++ both (3 ∷ 4 ∷ 6 ∷ 7 ∷ []) 2 (some (missing 5))
+    ++ both (3 ∷ 4 ∷ 5 ∷ 7 ∷ []) 4 (some (missing 6))
+    ++ both (3 ∷ 4 ∷ []) 1 none
+    ++ both (3 ∷ 5 ∷ []) 2 none
+    ++ both (3 ∷ 6 ∷ []) 4 none
+    ++ row (3 ∷ 7 ∷ []) (rcv2 [] 0x8000_0000) (some (refused 9))
+    ∷ row (3 ∷ 7 ∷ []) (snd2 [] 0 0x8000_0000) none
+    ∷ row (3 ∷ 4 ∷ 5 ∷ 6 ∷ []) (snd2 [] 0 0x8000_0000) (some (missing 7))
+    ∷ row [] (snd2 [] 0 0x8000_0001) (some (missing 3))
+    ∷ row (3 ∷ 7 ∷ []) (snd2 [] 0 0x8000_0001) (some (missing 4))
+    ∷ row (3 ∷ 7 ∷ []) (snd2 [] 0 0x8000_0004) (some (missing 6))
+    ∷ row (3 ∷ 4 ∷ []) (snd2 [] 0 0x8000_0001) (some (missing 7))
+    ∷ row (2 ∷ 3 ∷ 4 ∷ 5 ∷ 6 ∷ 7 ∷ []) (ask sta2 []) (some (missing 1))
+    ∷ row (1 ∷ []) (ask sta2 []) none
+    ∷ row (1 ∷ 3 ∷ 4 ∷ 5 ∷ 6 ∷ 7 ∷ []) (ask lis2 []) (some (missing 2))
+    ∷ row (2 ∷ []) (ask lis2 []) none
+    ∷ []
+
+-- the steps of a listing and of a pull: only 6
+abbrev steps : List Row
+steps = map (λ q. record { features = []; ended = false; made = q; paper = none }) (nextEntry v1 ∷ nextEntry v2 ∷ nextChunk ∷ [])
+
+-- after quit: 6 before all else
+abbrev late : List Row
+late =
+    map (λ q. record { features = []; ended = true; made = q; paper = some (refused 6) })
+    (map call (withPath (0 ∷ ascii "abc")) ++ call (ask stat []) ∷ call (chunk []) ∷ call (done 0) ∷ call quit ∷ nextEntry v1 ∷ nextEntry v2 ∷ nextChunk ∷ [])
 
 abbrev pub rows : List Row
-rows =
-    row [] (ask stat (ascii "/ab")) none
-    ∷ row [] (ask stat (ascii "/abc")) (some (refused 7))
-    ∷ row [] (ask sta2 (0 ∷ ascii "abc")) (some (refused 7))
-    ∷ row [] (ask sta2 (ascii "/a" ++ 0 ∷ [])) (some (refused 8))
-    ∷ row [] (send (0 ∷ []) 0) (some (refused 8))
-    ∷ row [] (rcv2 (0 ∷ []) 3) (some (refused 8))
-    ∷ row [] (rcv2 [] 3) (some (refused 9))
-    ∷ row (3 ∷ 7 ∷ []) (rcv2 [] 0x8000_0000) (some (refused 9))
-    ∷ row (3 ∷ 7 ∷ []) (snd2 [] 0 0x8000_0000) none
-    ∷ row [] (snd2 [] 0 0x8000_0001) (some (missing 3))
-    ∷ row (3 ∷ []) (snd2 [] 0 0x8000_0001) (some (missing 4))
-    ∷ row (3 ∷ 4 ∷ []) (snd2 [] 0 0x8000_0001) (some (missing 7))
-    ∷ row (3 ∷ 4 ∷ []) (rcv2 [] 1) none
-    ∷ row (3 ∷ 4 ∷ []) (rcv2 [] 2) (some (missing 5))
-    ∷ row (3 ∷ 4 ∷ []) (rcv2 [] 4) (some (missing 6))
-    ∷ row (3 ∷ []) (rcv2 [] 0) none
-    ∷ row (2 ∷ []) (ask sta2 []) (some (missing 1))
-    ∷ row (1 ∷ []) (ask lis2 []) (some (missing 2))
-    ∷ row [] (ask list []) none
-    ∷ row [] (ask recv []) none
-    ∷ row [] (chunk (0 ∷ ascii "abc")) none
-    ∷ row [] (done 0) none
-    ∷ row [] quit none
-    ∷ late (call (ask stat (ascii "/abc")))
-    ∷ late (call (rcv2 (0 ∷ []) 3))
-    ∷ late (call quit)
-    ∷ late (nextEntry v1)
-    ∷ late nextChunk
-    ∷ []
+rows = paths ++ features ++ steps ++ late

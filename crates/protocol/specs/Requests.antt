@@ -77,13 +77,13 @@ lastComma [] = none
 lastComma (b ∷ s) = commaAt b (lastComma s)
 
 -- the request q of size n, but 18 where the test holds
-abbrev pub unless : Bool → Request → ℕ → Read
-unless bad q n = pick bad refused (request q n)
+abbrev pub unlessBad : Bool → Request → ℕ → Read
+unlessBad bad q n = pick bad refused (request q n)
 
 -- SEND's text: the path up to the last comma, then the mode in canonical decimal
 abbrev pub withMode : Dialect → List ℕ → ℕ → Option ℕ → Read
 withMode d p n none = refused
-withMode d p n (some m) = unless (badPath d p) (send p m) n
+withMode d p n (some m) = unlessBad (badPath d p) (send p m) n
 
 abbrev pub atComma : Dialect → List ℕ → Option ℕ → Read
 atComma d b none = refused
@@ -91,14 +91,14 @@ atComma d b (some k) = withMode d (take k b) (headerSize + length b) (canonical 
 
 -- the whole message: n is its arg, b what follows the header
 unfoldable pub bodyOf : Dialect → Kind → ℕ → List ℕ → Read
-bodyOf d (pathOnly i) n b = unless (badPath d b) (ask i b) (headerSize + n)
+bodyOf d (pathOnly i) n b = unlessBad (badPath d b) (ask i b) (headerSize + n)
 bodyOf d pathFlags n b =
-    unless (badPath d (take n b) || not (same (take 4 (drop n b)) (d .bytes RCV2)) || refusedFlags true (numberAt 4 (n + 4) b))
+    unlessBad (badPath d (take n b) || not (same (take 4 (drop n b)) (d .bytes RCV2)) || refusedFlags true (numberAt 4 (n + 4) b))
     (rcv2 (take n b) (numberAt 4 (n + 4) b))
     (headerSize + (n + 8))
 bodyOf d pathMode n b = atComma d b (lastComma b)
 bodyOf d pathModeFlags n b =
-    unless (badPath d (take n b) || not (same (take 4 (drop n b)) (d .bytes SND2)) || refusedFlags false (numberAt 4 (n + 8) b))
+    unlessBad (badPath d (take n b) || not (same (take 4 (drop n b)) (d .bytes SND2)) || refusedFlags false (numberAt 4 (n + 8) b))
     (snd2 (take n b) (numberAt 4 (n + 4) b) (numberAt 4 (n + 8) b))
     (headerSize + (n + 12))
 bodyOf d bytes n b = request (chunk b) (headerSize + n)

@@ -6,7 +6,7 @@ use Prim.Native.Nat.{ℕ, zero, suc, _+_, _*_, _-_, _/_, _%_, _^_, _<_}
 use native.Mathlib.Nat.{pow-succ', mod-eq-of-lt}
 use native.Mathlib.Omega.{arith}
 use borrow.Author.Needs.{needs}
-use borrow.Author.Tests.{lt-ltb, ltb-true}
+use borrow.Author.Tests.{lt-ltb, ltb-true, le-leb}
 use lib.Dec.{ltb}
 use lib.IntN.{ℤ, pos, negsuc}
 use lib.ListN.{length, getD}
@@ -24,7 +24,7 @@ use Rattle.session.specs.declared.Session.{Session}
 use Rattle.session.specs.declared.Version.the-variants.{V1, V2}
 use Rattle.session.specs.declared.Want.the-variants as W
 use Rattle.session.specs.Core.{featuresFrom}
-use Rattle.record.specs.Fields.{bit, isOne, bits, bitsOf, low, unsigned, padded, registers, ownNumbers, stepNumbers, fields, sessionOf, known, phaseState, phaseNumbers, requestState, requestNumbers, pendingOf}
+use Rattle.record.specs.Fields.{bit, isOne, bits, bitsOf, low, unsigned, padded, registers, ownNumbers, stepNumbers, fields, sessionOf, keepsIn, startsIn, stepIn, known, phaseState, phaseNumbers, requestState, requestNumbers, pendingOf}
 use Rattle.record.specs.Narrow.{U32, U64, I64, NarrowPhase, NarrowRequest, NarrowPending, Narrow}
 
 -- ---- bits
@@ -80,7 +80,7 @@ abbrev Back : ℕ → Pending → Pending → Type 0
 Back state p q = (ltb state 31 ≡ true) × (p ≡ q)
 
 module _ (s : Session) where
-  reading-back : (p : Phase) (until : ℕ) (lost : Bool) → NarrowPhase p
+  reading-back : (p : Phase) (until : ℕ) (lost : Bool) → NarrowPhase (s .capacity) p
       → Back (phaseState p) (pendingOf (with s (Reading p until lost))) (Reading p until (isOne (bit lost)))
   reading-back (Header (W.Stat V1)) until lost h = (refl, refl)
   reading-back (Header (W.Stat V2)) until lost h = (refl, refl)
@@ -131,11 +131,30 @@ module _ (s : Session) where
   writing-back (Q.Done t) from piece h = (refl, rw (low-back t h))
   writing-back Q.Quit from piece h = (refl, refl)
 
-  pub pending-back : (p : Pending) → NarrowPending p → Back (with s p 7) (pendingOf (with s p)) p
+  pub pending-back : (p : Pending) → NarrowPending (s .capacity) p → Back (with s p 7) (pendingOf (with s p)) p
   pending-back Idle h = (refl, refl)
   pending-back (Reading p until lost) h = let r = reading-back p until lost (h .0) in (r .0, r .1 ∙ ap (Reading p until) (one-bit lost))
   pending-back (Writing q from piece) h = writing-back q from piece (h .0)
   pending-back (Closing failed code) h = (refl, rw (one-bit failed, low-back code h))
+
+-- ---- the parts of a pending step lie inside
+
+keeps-in : (c : ℕ) (p : Phase) → NarrowPhase c p → keepsIn c p ≡ true
+keeps-in c (Header w) h = refl
+keeps-in c (Stat v) h = refl
+keeps-in c (Entry v) h = refl
+keeps-in c (Last v) h = refl
+keeps-in c (NameV1 d) h = refl
+keeps-in c (NameV2 d) h = refl
+keeps-in c (Body n) h = refl
+keeps-in c (Text n) h = refl
+keeps-in c (Rest left text) h = le-leb text c (h .1)
+
+step-in : (c : ℕ) (p : Pending) → NarrowPending c p → stepIn c p ≡ true
+step-in c Idle h = refl
+step-in c (Reading p until lost) h = keeps-in c p (h .0)
+step-in c (Writing q from piece) h = h .2
+step-in c (Closing failed code) h = refl
 
 -- ---- every number of a session has 64 bits
 
@@ -153,20 +172,20 @@ all-padded zero r h = tt
 all-padded (suc k) [] h = (omega arith, all-padded k [] tt)
 all-padded (suc k) (x ∷ r) h = (h .0, all-padded k r (h .1))
 
-phase-wide : (p : Phase) → NarrowPhase p → AllU64 (phaseNumbers p)
-phase-wide (Header w) h = tt
-phase-wide (Stat v) h = tt
-phase-wide (Entry v) h = tt
-phase-wide (Last v) h = tt
-phase-wide (NameV1 d) h = search needs
-phase-wide (NameV2 d) h =
+phase-wide : (c : ℕ) → U64 c → (p : Phase) → NarrowPhase c p → AllU64 (phaseNumbers p)
+phase-wide c w (Header x) h = tt
+phase-wide c w (Stat v) h = tt
+phase-wide c w (Entry v) h = tt
+phase-wide c w (Last v) h = tt
+phase-wide c w (NameV1 d) h = search needs
+phase-wide c w (NameV2 d) h =
     let a = unsigned-wide (d .stat .atime) (h .atime) in
     let m = unsigned-wide (d .stat .mtime) (h .mtime) in
     let c = unsigned-wide (d .stat .ctime) (h .ctime) in
     search needs
-phase-wide (Body n) h = (omega arith, tt)
-phase-wide (Text n) h = (omega arith, tt)
-phase-wide (Rest left text) h = (h .0, (h .1, tt))
+phase-wide c w (Body n) h = (omega arith, tt)
+phase-wide c w (Text n) h = (omega arith, tt)
+phase-wide c w (Rest left text) h = (h .0, (omega arith, tt))
 
 request-wide : (q : Request) → NarrowRequest q → AllU64 (requestNumbers q)
 request-wide Q.Stat h = tt
@@ -192,15 +211,15 @@ module _ (s : Session) where
   flag-known (Writing q from piece) = refl
   flag-known (Closing failed code) = lt-ltb _ _ (bit-small failed)
 
-  pending-wide : (p : Pending) → NarrowPending p → AllU64 (stepNumbers p)
-  pending-wide Idle h = all-padded 17 [] tt
-  pending-wide (Reading p until lost) h =
+  pending-wide : U64 (s .capacity) → (p : Pending) → NarrowPending (s .capacity) p → AllU64 (stepNumbers p)
+  pending-wide w Idle h = all-padded 17 [] tt
+  pending-wide w (Reading p until lost) h =
       let k = ltb-true (phaseState p) 31 (reading-back s p until lost (h .0) .0) in
-      step-wide (phaseState p) (bit lost) until 0 0 (phaseNumbers p) k (bit-small lost) (h .1) (omega arith) (omega arith) (phase-wide p (h .0))
-  pending-wide (Writing q from piece) h =
+      step-wide (phaseState p) (bit lost) until 0 0 (phaseNumbers p) k (bit-small lost) (h .1) (omega arith) (omega arith) (phase-wide (s .capacity) w p (h .0))
+  pending-wide w (Writing q from piece) h =
       let k = ltb-true (requestState q) 31 (writing-back s q from piece (h .0) .0) in
       step-wide (requestState q) 0 0 from piece (requestNumbers q) k (omega arith) (omega arith) (h .1 .0) (h .1 .1) (request-wide q (h .0))
-  pending-wide (Closing failed code) h = let k = bit-small failed in search needs
+  pending-wide w (Closing failed code) h = let k = bit-small failed in search needs
 
 module _ (s : Session) (n : Narrow s) where
   pub fields-wide : (i : ℕ) → U64 (numbers (fields s) i)
@@ -208,12 +227,19 @@ module _ (s : Session) (n : Narrow s) where
   fields-wide i =
       let f : U64 (bits (listed (s .features))) = omega (arith, bits-small (listed (s .features))) in
       let e : U64 (bit (s .ended)) = omega (arith, bit-small (s .ended)) in
-      at-all (fields s) (n .capacity, (n .message, (n .head, (n .tail, (n .lent, (f, (e, pending-wide s (s .pending) (n .pending)))))))) i
+      at-all (fields s) (n .capacity, (n .message, (n .head, (n .tail, (n .lent, (f, (e, pending-wide s (n .capacity) (s .pending) (n .pending)))))))) i
 
   pub fields-known : known (numbers (fields s)) ≡ true
   unfolding fields known
   fields-known =
-      rw (lt-ltb _ _ (bits-small (listed (s .features))), lt-ltb _ _ (bit-small (s .ended)), pending-back s (s .pending) (n .pending) .0, flag-known s (s .pending))
+      rw (
+        lt-ltb _ _ (bits-small (listed (s .features))),
+        lt-ltb _ _ (bit-small (s .ended)),
+        pending-back s (s .pending) (n .pending) .0,
+        flag-known s (s .pending),
+        pending-back s (s .pending) (n .pending) .1,
+        step-in (s .capacity) (s .pending) (n .pending),
+      )
 
   pub fields-back : sessionOf (numbers (fields s)) ≡ s
   unfolding fields sessionOf

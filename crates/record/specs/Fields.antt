@@ -5,9 +5,9 @@
 --
 -- Assumes nothing.
 use Prim.Native.Nat.{ℕ, zero, suc, _+_, _*_, _-_, _/_, _%_}
-use mathlib.Core.Bool.{Bool, true, false, _&&_}
+use mathlib.Core.Bool.{Bool, true, false, _&&_, _||_}
 use mathlib.Core.List.{List, [], _∷_, _++_, map}
-use lib.Dec.{eqb, ltb}
+use lib.Dec.{eqb, ltb, leb}
 use lib.IntN.{ℤ, pos, negsuc}
 use lib.ListN.{getD}
 use Rattle.protocol.specs.Bytes.{signed}
@@ -20,6 +20,7 @@ use Rattle.format_record.specs.declared.DentV2.{DentV2}
 use Rattle.request.specs.declared.Request.{Request}
 use Rattle.request.specs.declared.Request.the-variants as Q
 use Rattle.session.specs.Core.{featuresFrom}
+use Rattle.session.specs.Sends.{isData}
 use Rattle.session.specs.declared.Pending.{Pending}
 use Rattle.session.specs.declared.Pending.the-variants.{Idle, Reading, Writing, Closing}
 use Rattle.session.specs.declared.Phase.{Phase}
@@ -228,6 +229,31 @@ sessionOf n =
       pending = pendingOf n;
     }
 
--- whether some numbers are a session's: features of seven bits, a bool, a state, a bool
+-- ---- whether some numbers are a session's
+
+-- what is kept of a FAIL text: no more than the capacity
+abbrev pub keepsIn : (capacity : ℕ) → Phase → Bool
+keepsIn c (Header w) = true
+keepsIn c (Stat v) = true
+keepsIn c (Entry v) = true
+keepsIn c (Last v) = true
+keepsIn c (NameV1 d) = true
+keepsIn c (NameV2 d) = true
+keepsIn c (Body n) = true
+keepsIn c (Text n) = true
+keepsIn c (Rest left text) = leb text c
+
+-- what is lent is sent from its start on; data from any place
+abbrev pub startsIn : Request → (from : ℕ) → Bool
+startsIn q from = isData q || eqb from 0
+
+-- the parts that a pending step comes to lie inside their slices
+abbrev pub stepIn : (capacity : ℕ) → Pending → Bool
+stepIn c Idle = true
+stepIn c (Reading p until lost) = keepsIn c p
+stepIn c (Writing q from piece) = startsIn q from
+stepIn c (Closing failed code) = true
+
+-- features of seven bits, a bool, a state, a bool, a step whose parts lie inside
 unfoldable pub known : (ℕ → ℕ) → Bool
-known n = ltb (n 5) 128 && ltb (n 6) 2 && ltb (n 7) 31 && ltb (n 8) 2
+known n = ltb (n 5) 128 && ltb (n 6) 2 && ltb (n 7) 31 && ltb (n 8) 2 && stepIn (n 0) (pendingOf n)

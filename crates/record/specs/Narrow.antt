@@ -1,6 +1,9 @@
--- Sessions whose numbers fit the widths that the code gives them: what a record keeps of them is all of them.
+-- Sessions whose numbers fit the widths that the code gives them, and whose parts lie inside their slices: what a record keeps of them is
+-- all of them.
 -- Assumes nothing.
-use Prim.Native.Nat.{ℕ, _^_, _<_}
+use Prim.Native.Nat.{ℕ, _^_, _<_, _≤_}
+use mathlib.Core.Bool.{true}
+use mathlib.Core.Path.{_≡_}
 use lib.IntN.{ℤ}
 use lib.Signed.{mag}
 use Rattle.format_record.specs.declared.DentV1.{DentV1}
@@ -12,6 +15,7 @@ use Rattle.session.specs.declared.Pending.the-variants.{Idle, Reading, Writing,
 use Rattle.session.specs.declared.Phase.{Phase}
 use Rattle.session.specs.declared.Phase.the-variants.{Header, Stat, Entry, Last, NameV1, NameV2, Body, Text, Rest}
 use Rattle.session.specs.declared.Session.{Session}
+use Rattle.record.specs.Fields.{startsIn}
 
 abbrev pub U32 : ℕ → Type 0
 U32 n = n < 2 ^ 32
@@ -43,16 +47,16 @@ pub record NarrowDent2 (d : DentV2) : Type 0 where
   pub ctime : I64 (d .stat .ctime)
   pub namelen : U32 (d .namelen)
 
-abbrev pub NarrowPhase : Phase → Type 0
-NarrowPhase (Header w) = Unit {0}
-NarrowPhase (Stat v) = Unit {0}
-NarrowPhase (Entry v) = Unit {0}
-NarrowPhase (Last v) = Unit {0}
-NarrowPhase (NameV1 d) = NarrowDent d
-NarrowPhase (NameV2 d) = NarrowDent2 d
-NarrowPhase (Body n) = U32 n
-NarrowPhase (Text n) = U32 n
-NarrowPhase (Rest left text) = U64 left × U64 text
+abbrev pub NarrowPhase : (capacity : ℕ) → Phase → Type 0
+NarrowPhase c (Header w) = Unit {0}
+NarrowPhase c (Stat v) = Unit {0}
+NarrowPhase c (Entry v) = Unit {0}
+NarrowPhase c (Last v) = Unit {0}
+NarrowPhase c (NameV1 d) = NarrowDent d
+NarrowPhase c (NameV2 d) = NarrowDent2 d
+NarrowPhase c (Body n) = U32 n
+NarrowPhase c (Text n) = U32 n
+NarrowPhase c (Rest left text) = U64 left × (text ≤ c)
 
 abbrev pub NarrowRequest : Request → Type 0
 NarrowRequest Q.Stat = Unit {0}
@@ -67,11 +71,11 @@ NarrowRequest Q.Data = Unit {0}
 NarrowRequest (Q.Done t) = U32 t
 NarrowRequest Q.Quit = Unit {0}
 
-abbrev pub NarrowPending : Pending → Type 0
-NarrowPending Idle = Unit {0}
-NarrowPending (Reading p until lost) = NarrowPhase p × U64 until
-NarrowPending (Writing q from piece) = NarrowRequest q × (U64 from × U64 piece)
-NarrowPending (Closing failed code) = U32 code
+abbrev pub NarrowPending : (capacity : ℕ) → Pending → Type 0
+NarrowPending c Idle = Unit {0}
+NarrowPending c (Reading p until lost) = NarrowPhase c p × U64 until
+NarrowPending c (Writing q from piece) = NarrowRequest q × (U64 from × U64 piece) × (startsIn q from ≡ true)
+NarrowPending c (Closing failed code) = U32 code
 
 pub record Narrow (s : Session) : Type 0 where
   pub capacity : U64 (s .capacity)
@@ -79,4 +83,4 @@ pub record Narrow (s : Session) : Type 0 where
   pub head : U64 (s .buf .head)
   pub tail : U64 (s .buf .tail)
   pub lent : U64 (s .lent)
-  pub pending : NarrowPending (s .pending)
+  pub pending : NarrowPending (s .capacity) (s .pending)

@@ -8,7 +8,8 @@ use native.Mathlib.Omega.{arith}
 use borrow.Author.Tests.{lt-ltb, eq-eqb, eqb-true, ltb-true}
 use lib.Dec.{eqb, ltb}
 use lib.ListN.{length}
-use Rattle.record.specs.Fields.{known, sessionOf}
+use Rattle.protocol.specs.Bytes.{pick}
+use Rattle.record.specs.Fields.{known, pendingOf, sessionOf, stepIn}
 use Rattle.record.specs.Record.{size, wordOf, loaded}
 use Rattle.session.specs.declared.Session.{Session}
 
@@ -27,22 +28,30 @@ module _ (rec : List ℕ) where
   pub held-size : holds ≡ true → length rec ≡ size
   held-size e = eqb-true (length rec) size (and-eq-true-iff (eqb (length rec) size) (known (wordOf rec)) .0 e .0)
 
-  -- its features, its end, its state and its flag are in range
-  pub held-known : holds ≡ true → (wordOf rec 5 < 128) × (wordOf rec 6 < 2) × (wordOf rec 7 < 31) × (wordOf rec 8 < 2)
+  -- its features, its end, its state and its flag are in range, and the parts of its step inside
+  pub held-known : holds ≡ true
+      → (wordOf rec 5 < 128) × (wordOf rec 6 < 2) × (wordOf rec 7 < 31) × (wordOf rec 8 < 2) × (stepIn (wordOf rec 0) (pendingOf (wordOf rec)) ≡ true)
   unfolding known
   held-known e =
       let w = wordOf rec in
       let k = and-eq-true-iff (eqb (length rec) size) (known w) .0 e .1 in
-      let (i, h) = and-eq-true-iff (ltb (w 5) 128 && ltb (w 6) 2 && ltb (w 7) 31) (ltb (w 8) 2) .0 k in
+      let (m, p) = and-eq-true-iff (ltb (w 5) 128 && ltb (w 6) 2 && ltb (w 7) 31 && ltb (w 8) 2) (stepIn (w 0) (pendingOf w)) .0 k in
+      let (i, h) = and-eq-true-iff (ltb (w 5) 128 && ltb (w 6) 2 && ltb (w 7) 31) (ltb (w 8) 2) .0 m in
       let (j, g) = and-eq-true-iff (ltb (w 5) 128 && ltb (w 6) 2) (ltb (w 7) 31) .0 i in
       let (d, f) = and-eq-true-iff (ltb (w 5) 128) (ltb (w 6) 2) .0 j in
-      (ltb-true (w 5) 128 d, ltb-true (w 6) 2 f, ltb-true (w 7) 31 g, ltb-true (w 8) 2 h)
+      (ltb-true (w 5) 128 d, ltb-true (w 6) 2 f, ltb-true (w 7) 31 g, ltb-true (w 8) 2 h, p)
 
-  pub held-of : length rec ≡ size → wordOf rec 5 < 128 → wordOf rec 6 < 2 → wordOf rec 7 < 31 → wordOf rec 8 < 2 → holds ≡ true
+  pub held-of : length rec ≡ size → wordOf rec 5 < 128 → wordOf rec 6 < 2 → wordOf rec 7 < 31 → wordOf rec 8 < 2
+      → stepIn (wordOf rec 0) (pendingOf (wordOf rec)) ≡ true → holds ≡ true
   unfolding known
-  held-of l a b c d =
+  held-of l a b c d p =
       let w = wordOf rec in
-      rw (eq-eqb (length rec) size l, lt-ltb (w 5) 128 a, lt-ltb (w 6) 2 b, lt-ltb (w 7) 31 c, lt-ltb (w 8) 2 d)
+      rw (eq-eqb (length rec) size l, lt-ltb (w 5) 128 a, lt-ltb (w 6) 2 b, lt-ltb (w 7) 31 c, lt-ltb (w 8) 2 d, p)
+
+  -- what the code says of the parts of its step
+  pub step-told : (b : Bool) → length rec ≡ size → pick (eqb (length rec) size) (stepIn (wordOf rec 0) (pendingOf (wordOf rec))) false ≡ b
+      → stepIn (wordOf rec 0) (pendingOf (wordOf rec)) ≡ b
+  step-told b l e = rw (eq-eqb (length rec) size l) at e
 
   -- a record that holds a session is 192 bytes long
   pub loaded-size : (s : Session) → some s ≡ loaded rec → length rec ≡ size

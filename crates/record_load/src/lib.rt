@@ -2,9 +2,11 @@
 ghost use mathlib.Core.Path.{_≡_};
 ghost use Prim.Native.Nat.{_%_, _<_};
 ghost use lib.ListN.{length};
-ghost use Rattle.protocol.specs.Bytes.{signed};
+ghost use mathlib.Core.Bool.{false};
+ghost use lib.Dec.{eqb};
+ghost use Rattle.protocol.specs.Bytes.{pick, signed};
 ghost use Rattle.session.specs.Core.{featuresFrom};
-ghost use Rattle.record.specs.Fields.{isOne, bitsOf, low, dentFrom, dent2From, pendingOf, sessionOf};
+ghost use Rattle.record.specs.Fields.{isOne, bitsOf, low, dentFrom, dent2From, pendingOf, sessionOf, stepIn};
 ghost use Rattle.record.specs.Record.{size, wordOf, loaded};
 ghost use Rattle.record_load.specs.Found.{found};
 ghost use Rattle.session.specs.declared.Pending.the-variants.{Reading, Writing};
@@ -17,7 +19,26 @@ use format_record::DentV1;
 use format_record::DentV2;
 use format_record::StatV1;
 use format_record::StatV2;
+use record::CAPACITY;
+use record::CLOSING;
+use record::DATA_OUT;
+use record::ENDED;
+use record::FAIL_REST;
+use record::FEATURES;
+use record::FLAG;
+use record::FROM;
+use record::HEAD;
+use record::IDLE;
+use record::KEPT;
+use record::LENT;
+use record::MESSAGE;
+use record::PIECE;
+use record::QUIT_OUT;
 use record::SIZE;
+use record::STATE;
+use record::STATES;
+use record::TAIL;
+use record::UNTIL;
 use recv_buf::RecvBuf;
 use request::Request;
 use session::Pending;
@@ -33,15 +54,15 @@ pub enum Loaded {
 }
 
 // The i-th number of a record.
-fn word(rec: &[u8], i: usize) -> u64
+fn word(rec: &[u8], i: u8) -> u64
     requires { ⌜ (length (now rec) ≡ size) × (i < 24) ⌝ }
     ensures { λ r. ⌜ r ≡ wordOf (now (rec .entry)) i ⌝ }
 {
-    u64_at(rec, 8 * i)
+    u64_at(rec, 8 * (i as usize))
 }
 
 // ... as a place or a length.
-fn place(rec: &[u8], i: usize) -> usize
+fn place(rec: &[u8], i: u8) -> usize
     requires { ⌜ (length (now rec) ≡ size) × (i < 24) ⌝ }
     ensures { λ r. ⌜ r ≡ wordOf (now (rec .entry)) i ⌝ }
 {
@@ -49,7 +70,7 @@ fn place(rec: &[u8], i: usize) -> usize
 }
 
 // ... its low 32 bits.
-fn half(rec: &[u8], i: usize) -> u32
+fn half(rec: &[u8], i: u8) -> u32
     requires { ⌜ (length (now rec) ≡ size) × (i < 24) ⌝ }
     ensures { λ r. ⌜ r ≡ low (wordOf (now (rec .entry)) i) ⌝ }
 {
@@ -57,11 +78,11 @@ fn half(rec: &[u8], i: usize) -> u32
 }
 
 // ... as a signed number.
-fn time(rec: &[u8], i: usize) -> i64
+fn time(rec: &[u8], i: u8) -> i64
     requires { ⌜ (length (now rec) ≡ size) × (i < 24) ⌝ }
     ensures { λ r. ⌜ r ≡ signed (wordOf (now (rec .entry)) i) ⌝ }
 {
-    i64_at(rec, 8 * i)
+    i64_at(rec, 8 * (i as usize))
 }
 
 fn odd(n: u64) -> bool
@@ -130,7 +151,7 @@ fn dent_v2(rec: &[u8]) -> DentV2
 }
 
 // The request of a step that writes.
-fn request(rec: &[u8], state: u64) -> Request
+fn request(rec: &[u8], state: usize) -> Request
     requires { ⌜ (length (now rec) ≡ size) × ((state ≡ wordOf (now rec) 7) × ((0 < state) × (state < 12))) ⌝ }
     ensures { λ r. ⌜ Writing r (wordOf (now (rec .entry)) 10) (wordOf (now (rec .entry)) 11) ≡ pendingOf (wordOf (now (rec .entry))) ⌝ }
 {
@@ -150,7 +171,7 @@ fn request(rec: &[u8], state: u64) -> Request
 }
 
 // The phase of a step that reads.
-fn phase(rec: &[u8], state: u64) -> Phase
+fn phase(rec: &[u8], state: usize) -> Phase
     requires { ⌜ (length (now rec) ≡ size) × ((state ≡ wordOf (now rec) 7) × ((12 < state) × (state < 31))) ⌝ }
     ensures { λ r. ⌜ Reading r (wordOf (now (rec .entry)) 9) (isOne (wordOf (now (rec .entry)) 8)) ≡ pendingOf (wordOf (now (rec .entry))) ⌝ }
 {
@@ -183,19 +204,19 @@ fn pending(rec: &[u8]) -> Pending
     requires { ⌜ (length (now rec) ≡ size) × (wordOf (now rec) 7 < 31) ⌝ }
     ensures { λ r. ⌜ r ≡ pendingOf (wordOf (now (rec .entry))) ⌝ }
 {
-    let state = word(rec, 7);
-    if state == 0 {
+    let state = place(rec, STATE);
+    if state == IDLE {
         return Pending::Idle;
     }
-    if state < 12 {
+    if state < CLOSING {
         return Pending::Writing {
             request: request(rec, state),
-            at: place(rec, 10),
-            piece: place(rec, 11),
+            at: place(rec, FROM),
+            piece: place(rec, PIECE),
         };
     }
-    let flag = word(rec, 8) == 1;
-    if state == 12 {
+    let flag = word(rec, FLAG) == 1;
+    if state == CLOSING {
         return Pending::Closing {
             failed: flag,
             code: half(rec, 12),
@@ -203,7 +224,7 @@ fn pending(rec: &[u8]) -> Pending
     }
     Pending::Reading {
         phase: phase(rec, state),
-        until: place(rec, 9),
+        until: place(rec, UNTIL),
         lost: flag,
     }
 }
@@ -213,37 +234,64 @@ fn session(rec: &[u8]) -> Session
     ensures { λ r. ⌜ r ≡ sessionOf (wordOf (now (rec .entry))) ⌝ }
 {
     let buf = RecvBuf {
-        head: place(rec, 2),
-        tail: place(rec, 3),
+        head: place(rec, HEAD),
+        tail: place(rec, TAIL),
     };
     Session {
-        capacity: place(rec, 0),
-        message: place(rec, 1),
+        capacity: place(rec, CAPACITY),
+        message: place(rec, MESSAGE),
         buf,
-        lent: place(rec, 4),
-        features: features(word(rec, 5)),
-        ended: word(rec, 6) == 1,
+        lent: place(rec, LENT),
+        features: features(word(rec, FEATURES)),
+        ended: word(rec, ENDED) == 1,
         pending: pending(rec),
     }
+}
+
+// Whether the parts that the pending step comes to lie inside their slices: a path is sent from its start on, and no more of a FAIL text was
+// kept than the capacity. False for a record of another length.
+pub fn step_in(rec: &[u8]) -> bool
+    ensures { λ r. ⌜ r ≡ pick (eqb (length (now (rec .entry))) size) (stepIn (wordOf (now (rec .entry)) 0) (pendingOf (wordOf (now (rec .entry))))) false ⌝ }
+{
+    if rec.len() == SIZE {
+        let state = place(rec, STATE);
+        if state == FAIL_REST {
+            return place(rec, KEPT) <= place(rec, CAPACITY);
+        }
+        if QUIT_OUT < state {
+            return true;
+        }
+        if state == IDLE {
+            return true;
+        }
+        if state == DATA_OUT {
+            return true;
+        }
+        return place(rec, FROM) == 0;
+    }
+    false
 }
 
 pub fn load(rec: &[u8]) -> Loaded
     ensures { λ r. ⌜ found r ≡ loaded (now (rec .entry)) ⌝ }
 {
     if rec.len() == SIZE {
-        if 128 <= word(rec, 5) {
+        if 128 <= word(rec, FEATURES) {
             return Loaded::Unknown;
         }
-        if 2 <= word(rec, 6) {
+        if 2 <= word(rec, ENDED) {
             return Loaded::Unknown;
         }
-        if 31 <= word(rec, 7) {
+        if STATES <= place(rec, STATE) {
             return Loaded::Unknown;
         }
-        if 2 <= word(rec, 8) {
+        if 2 <= word(rec, FLAG) {
             return Loaded::Unknown;
         }
-        return Loaded::Session(session(rec));
+        if step_in(rec) {
+            return Loaded::Session(session(rec));
+        }
+        return Loaded::Unknown;
     }
     Loaded::Unknown
 }

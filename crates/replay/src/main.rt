@@ -2,11 +2,7 @@
 // its bytes in hexadecimal; behind each list, how many bytes are held. Where the session asks for another read, another piece or the close at
 // another place, or leaves other bytes, a line says so. What the records hold stands in docs/PROMISES.md, "Outside facts that are run".
 ghost use Prim.Native.Nat.{_≤_};
-use calls::Opened;
-use calls::next_entry;
-use calls::open;
-use calls::recv_next;
-use calls::start;
+use boundary_reply::tell;
 use features::Features;
 use format_flags::FileMode;
 use format_flags::SyncFlags;
@@ -14,12 +10,10 @@ use format_number::put_bytes;
 use format_number::u64_at;
 use libc::STDIN_FILENO;
 use libc::STDOUT_FILENO;
-use part::part;
-use recording::Record;
-use recording::decode;
-use recording::next;
 use recv_buf::RecvBuf;
-use reply::tell;
+use replay_records::Record;
+use replay_records::decode;
+use replay_records::next;
 use request::Request;
 use session::Answer;
 use session::Fault;
@@ -28,6 +22,12 @@ use session::Reply;
 use session::Session;
 use session::Stepped;
 use session::Version;
+use session_calls::Opened;
+use session_calls::next_entry;
+use session_calls::open;
+use session_calls::recv_next;
+use session_calls::start;
+use session_part::part;
 
 const DIGITS: [u8; 16] = *b"0123456789ABCDEF";
 
@@ -201,12 +201,12 @@ fn fault(kind: u8, code: u32) -> Fault {
 
 fn report(s: Session, rx: &mut [u8], msg: &mut [u8], r: Record, lent: &[u8]) -> Stepped {
     if 0 < r.report {
-        return faults::fault(s, rx, msg, lent.len(), fault(r.report, r.code));
+        return session_faults::fault(s, rx, msg, lent.len(), fault(r.report, r.code));
     }
     if r.kind == 3 {
-        return reports::read(s, rx, msg, lent.len(), r.len);
+        return session_reports::read(s, rx, msg, lent.len(), r.len);
     }
-    reports::wrote(s, rx, msg, lent)
+    session_reports::wrote(s, rx, msg, lent)
 }
 
 // ---- a step ends

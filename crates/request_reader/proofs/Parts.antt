@@ -15,7 +15,7 @@ use Rattle.protocol.specs.Flags.{refusedFlags}
 use Rattle.protocol.specs.Ids.{RCV2, SND2, letters, published}
 use Rattle.protocol.specs.Messages.{PathOnly, Request, ask, rcv2, snd2, word}
 use Rattle.protocol.specs.Records.{headerSize, idAt, u32At}
-use Rattle.protocol.specs.Requests.{Read, more, refused, request, pathOnly, pathFlags, pathModeFlags, argOk, following, badPath, unless, bodyOf}
+use Rattle.protocol.specs.Requests.{Read, more, refused, request, pathOnly, pathFlags, pathModeFlags, argOk, following, badPath, unlessBad, bodyOf}
 use Rattle.protocol.proofs.Bytes.{same-refl, same-eq, whole-in}
 use Rattle.protocol.proofs.Words.{word-spelled}
 use Rattle.request.specs.Meaning.{meant}
@@ -108,7 +108,7 @@ abbrev tested : ℕ → ℕ → ℕ → Bool → List ℕ → Request → Read
 tested n behind f pull s q =
     pick (leb n (published .longest))
     (pick (ltb (length s) (headerSize + (n + behind))) more
-    (unless (badPath published (take n (drop headerSize s)) || not (same (take 4 (drop (headerSize + n) s)) (idAt s)) || refusedFlags pull f) q
+    (unlessBad (badPath published (take n (drop headerSize s)) || not (same (take 4 (drop (headerSize + n) s)) (idAt s)) || refusedFlags pull f) q
     (headerSize + (n + behind))))
     refused
 

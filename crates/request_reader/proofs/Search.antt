@@ -1,25 +1,14 @@
--- A byte looked for, one turn of a loop at a time: a NUL from the front, a comma from the end. Assumes nothing.
-use Prim.Native.Nat.{ℕ, suc, _+_, _-_, _≤_, _<_}
-use mathlib.Core.Bool.{true}
+-- A comma looked for from the end, one turn of a loop at a time. Assumes nothing.
+use Prim.Native.Nat.{ℕ, suc, _-_, _≤_, _<_}
 use mathlib.Core.List.{List, _∷_, _++_}
 use mathlib.Core.Option.{none, some}
 use mathlib.Core.Path.{_≡_, sym, ap, _∙_}
-use native.Mathlib.Numerals.{add-one}
 use native.Mathlib.Omega.{arith}
-use borrow.Author.Tests.{eq-eqb, ne-eqb}
+use borrow.Author.Tests.{ne-eqb}
 use lib.ListN.{length, take, drop, getD, take-append-drop}
 use lib.Seq.{drop-cons, length-take-le}
-use Rattle.protocol.specs.Bytes.{has}
 use Rattle.protocol.specs.Requests.{lastComma}
 use Rattle.protocol.proofs.Bodies.{comma-last}
-
--- a byte at i, looked for from i on
-module _ (s : List ℕ) (i : ℕ) (h : i < length s) where
-  pub has-here : (x : ℕ) → getD s i 0 ≡ x → has x (drop i s) ≡ true
-  has-here x e = rw (drop-cons s i 0 h, eq-eqb _ _ e)
-
-  pub has-next : (x : ℕ) → (getD s i 0 ≡ x → ⊥) → has x (drop i s) ≡ has x (drop (i + 1) s)
-  has-next x f = rw (drop-cons s i 0 h, ne-eqb _ _ f, add-one i)
 
 -- the byte before j, where no comma stands from j on
 module _ (s : List ℕ) (j : ℕ) (some-left : 0 < j) (h : j ≤ length s) (clear : lastComma (drop j s) ≡ none) where

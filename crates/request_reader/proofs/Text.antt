@@ -12,7 +12,7 @@ use Rattle.protocol.specs.Decimal.{canonical}
 use Rattle.protocol.specs.Ids.{published}
 use Rattle.protocol.specs.Messages.{send}
 use Rattle.protocol.specs.Records.{headerSize}
-use Rattle.protocol.specs.Requests.{Read, refused, request, badPath, lastComma, unless, withMode, atComma}
+use Rattle.protocol.specs.Requests.{Read, refused, request, badPath, lastComma, unlessBad, withMode, atComma}
 use Rattle.protocol.proofs.Bodies.{comma-there}
 use Rattle.request_reader.specs.Meaning.{modeAfter, sendOf}
 
@@ -29,7 +29,7 @@ mode-tests p size none = go (badPath published p)
     go false = refl
 mode-tests p size (some m) = go (badPath published p)
   where
-    go : (bad : Bool) → unless bad (send p m) size ≡ sent p size (pick bad none (some m))
+    go : (bad : Bool) → unlessBad bad (send p m) size ≡ sent p size (pick bad none (some m))
     go true = refl
     go false = refl
 

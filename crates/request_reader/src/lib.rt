@@ -7,7 +7,7 @@ ghost use Prim.Native.Nat.{ℕ, _+_, _-_, _≤_, _<_};
 ghost use lib.ListN.{length, take, drop};
 ghost use Rattle.decimal.specs.Meaning.{parsed};
 ghost use Rattle.format_id.specs.Ids.{idOf};
-ghost use Rattle.protocol.specs.Bytes.{has, same};
+ghost use Rattle.protocol.specs.Bytes.{same};
 ghost use Rattle.protocol.specs.Flags.{refusedFlags};
 ghost use Rattle.protocol.specs.Ids.{RCV2, SND2, letters, named, published};
 ghost use Rattle.protocol.specs.Messages.{PathOnly, ask};
@@ -24,8 +24,8 @@ use format_id::Found;
 use format_id::SyncId;
 use format_number::u32_at;
 use request::Request;
-
-const MAX_PATH: usize = 65_536;
+use request_path::MAX_PATH;
+use request_path::bad_path;
 
 const MAX_DATA: usize = 65_536;
 
@@ -60,28 +60,6 @@ impl Read {
             } => 0,
         }
     }
-}
-
-fn has_nul(p: &[u8]) -> bool
-    ensures { λ r. ⌜ r ≡ has 0 (now (p .entry)) ⌝ }
-{
-    let mut i = 0;
-    while i < p.len() {
-        if p[i] == 0 {
-            return true;
-        }
-        i += 1;
-    }
-    false
-}
-
-fn bad_path(p: &[u8]) -> bool
-    ensures { λ r. ⌜ r ≡ P.badPath published (now (p .entry)) ⌝ }
-{
-    if MAX_PATH < p.len() {
-        return true;
-    }
-    has_nul(p)
 }
 
 enum Part {

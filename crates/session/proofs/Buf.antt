@@ -18,7 +18,8 @@ use Rattle.recv_buf.specs.declared.RecvBuf.{RecvBuf}
 use Rattle.recv_buf.proofs.Laws.{Sound, held-in, taken-in, taken-drops, filled-in, window-keeps, window-filled, compacted-head, compacted-length, compacted-keeps}
 use Rattle.session.specs.declared.Pending.{Pending}
 use Rattle.session.specs.State.{St, st, at, Good}
-use Rattle.session.specs.Steps.{kept, tidied}
+use Rattle.session.specs.Steps.{kept}
+use Rattle.session.specs.Sends.{tidied}
 
 -- ---- the first bytes of a list
 

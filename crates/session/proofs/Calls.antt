@@ -10,9 +10,10 @@ use lib.ListN.{length}
 use Rattle.protocol.specs.Answers as P
 use Rattle.protocol.specs.Answers.{closed, error}
 use Rattle.protocol.specs.Bytes.{pick}
-use Rattle.protocol.specs.Calls.{v1, v2, Call, call, nextEntry, nextChunk, chunks, cut, refusal, messages}
+use Rattle.protocol.specs.Calls.{v1, v2, Call, call, nextEntry, nextChunk, chunks, cut, messages}
+use Rattle.protocol.specs.Refusal.{refusal}
 use Rattle.protocol.specs.Messages.{stat, sta2, list, lis2, recv, ask, rcv2, send, snd2, chunk, done, quit, messageOf}
-use Rattle.protocol.specs.Reader.{answer, plain, Config, Report, accepted, broke, written, writeBroke, Reply, isQuit, after}
+use Rattle.protocol.specs.Reader.{answer, plain, Config, Report, accepted, broke, written, writeBroke, Reply, isQuit, configAfter}
 use Rattle.request.specs.Meaning.{meant}
 use Rattle.request.specs.declared.Request.{Request}
 use Rattle.request.specs.declared.Request.the-variants as Q
@@ -26,17 +27,18 @@ use Rattle.session.specs.declared.Want.the-variants as W
 use Rattle.session.specs.Calls.{settingOf}
 use Rattle.session.specs.Core.{requestOf, core}
 use Rattle.session.specs.Faithful.{Composed, meetsHeader, Faithful}
-use Rattle.session.specs.Host.{Host, World, lentOf, Run, over-with, unended, enough, runCall, Entry, onRun, logOf}
+use Rattle.session.specs.Host.{Host, World, Run, over-with, unended, enough, runCall, Entry, onRun, logOf}
 use Rattle.session.specs.Phases.{wants}
 use Rattle.session.specs.Reports.{writeFault}
 use Rattle.session.specs.State.{St, st, beside, begun, Good}
-use Rattle.session.specs.Steps.{readOn, tidied, carried, messageOut, sent, told, resumed}
+use Rattle.session.specs.Steps.{readOn}
+use Rattle.session.specs.Sends.{tidied, carried, messageOut, sent, told, resumed}
 use Rattle.session.proofs.Data.{data-compacts, data-stays, sending, data-ok}
 use Rattle.session.proofs.Follows.{Breaks, header-ok, plain-breaks, push-breaks, close-ok, done-follows}
 use Rattle.session.proofs.Refusals.{openOf, Begins, begins, refused}
 use Rattle.session.proofs.Run.{configOf, Comes, fault-told}
 use Rattle.session.proofs.Sends.{Behind, path-ok, bare-ok}
-use Rattle.session.proofs.Site.{once, Site, all, rests, Goes, later, started, Mid, mid-at, mid-started, mid-tidied, LetIn, rests-is, all-is}
+use Rattle.session.proofs.Site.{once, Site, lent, all, rests, Goes, later, started, Mid, mid-at, mid-started, mid-tidied, LetIn, rests-is, all-is}
 use Rattle.session.proofs.Turns.{held, cont, restOf}
 
 -- ---- a call that is let in
@@ -51,9 +53,9 @@ module _ (h : Host) (w : World) (s : St) (good : Good s) (live : s .ses .ended �
 
   -- a call that is done once its one message is out
   starts : (q : Call) → LetIn (at q) → Behind (at q) → (rq : Request) → Breaks (at q) (length (held s)) (later (at q)) rq → rests (at q) accepted ≡ length (held s) → isQuit q ≡ false
-      → messages q ≡ meant rq (lentOf q) ∷ [] → carried rq 0 (lentOf q) ≡ lentOf q → ((t : St) → resumed t rq 0 (lentOf q) ≡ told t A.Done)
+      → messages q ≡ meant rq (lent (at q)) ∷ [] → carried rq 0 (lent (at q)) ≡ lent (at q) → ((t : St) → resumed t rq 0 (lent (at q)) ≡ told t A.Done)
       → written (configOf (s .ses) (h .close)) q ≡ answer P.done → length (w .left) + 7 ≤ enough q w
-      → Goes (at q) (enough q w) (w .writes) [] [] (beside (messageOut (begun (s .ses) (length (lentOf q))) (s .rx) rq 0 (lentOf q)) (s .msg))
+      → Goes (at q) (enough q w) (w .writes) [] [] (beside (messageOut (begun (s .ses) (length (lent (at q)))) (s .rx) rq 0 (lent (at q))) (s .msg))
   starts q lets behind rq breaks rest-at stays one carries goes ends l =
       path-ok (at q) lets good live rq (length (held s)) breaks (done-follows (at q) lets rq (length (held s)) rest-at stays goes ends) (enough q w) refl behind one carries
       (omega arith)
@@ -64,16 +66,16 @@ module _ (h : Host) (w : World) (s : St) (good : Good s) (live : s .ses .ended �
       ≡ plain (s .ses .capacity) (restOf (s .ses .capacity) msg (Header x)) y)
       → meetsHeader (written (configOf (s .ses) (h .close)) q) ≡ true
       → Goes (at q) f i xs [] (readOn t (Header x) false)
-  reads q lets f i xs t x stays l m e goes meets = header-ok (at q) lets stays f i xs [] t x false live l m e goes (fault-told (h .end)) meets
+  reads q lets f i xs t x stays l m e goes meets = header-ok (at q) lets stays f i xs [] t x false live l m e goes fault-told meets
 
   -- stat: its reply follows
   stat-ok : (q : Call) → LetIn (at q) → Behind (at q) → (rq : Request) (x : Want) → Breaks (at q) (length (held s)) (later (at q)) rq → rests (at q) accepted ≡ length (held s) → isQuit q ≡ false
-      → messages q ≡ meant rq (lentOf q) ∷ [] → carried rq 0 (lentOf q) ≡ lentOf q
-      → ((t : St) → resumed t rq 0 (lentOf q) ≡ readOn t (Header x) false)
+      → messages q ≡ meant rq (lent (at q)) ∷ [] → carried rq 0 (lent (at q)) ≡ lent (at q)
+      → ((t : St) → resumed t rq 0 (lent (at q)) ≡ readOn t (Header x) false)
       → ((msg y : List ℕ) → plain (s .ses .capacity) (written (configOf (s .ses) (h .close)) q) y
       ≡ plain (s .ses .capacity) (restOf (s .ses .capacity) msg (Header x)) y)
       → meetsHeader (written (configOf (s .ses) (h .close)) q) ≡ true → length (w .left) + 7 ≤ enough q w
-      → Goes (at q) (enough q w) (w .writes) [] [] (beside (messageOut (begun (s .ses) (length (lentOf q))) (s .rx) rq 0 (lentOf q)) (s .msg))
+      → Goes (at q) (enough q w) (w .writes) [] [] (beside (messageOut (begun (s .ses) (length (lent (at q)))) (s .rx) rq 0 (lent (at q))) (s .msg))
   stat-ok q lets behind rq x breaks rest-at stays one carries resumes goes meets l =
       path-ok (at q) lets good live rq (length (held s)) breaks
       (λ f i t m y. rw (resumes t) (reads q lets f i (all (at q)) t x stays m (mid-at (at q) t y rest-at) refl goes meets)) (enough q w) refl behind one carries
@@ -86,7 +88,7 @@ module _ (h : Host) (w : World) (s : St) (good : Good s) (live : s .ses .ended �
   quit-breaks lets f i xs b rest t (error k) l x split =
       close-ok (at (call quit)) lets f i xs (once xs b (error k)) true k t live refl (omega arith) (mid-at (at (call quit)) t x (rests-is (at (call quit)) lets (broke (error k)))) (rest, (split, refl)) refl
 
-  open-ok : (q : Call) → LetIn (at q) → Goes (at q) (enough q w) (w .writes) [] [] (openOf q s)
+  open-ok : (q : Call) → LetIn (at q) → Goes (at q) (enough q w) (w .writes) [] [] (openOf q (lent (at q)) s)
   unfolding messages carried sent writeFault writeBroke written resumed cont wants messageOf cut
   open-ok (call (ask stat p)) lets =
       let c : Site = at (call (ask stat p)) in
@@ -112,22 +114,22 @@ module _ (h : Host) (w : World) (s : St) (good : Good s) (live : s .ses .ended �
   open-ok (call (send p m)) lets =
       let c : Site = at (call (send p m)) in
       let rq : Request = requestOf (send p m) in
-      starts (c .call) lets (λ i is e d. (e, d)) rq (push-breaks c lets refl rq _ (λ e. rests-is c lets (broke e)) live (λ t e. refl) (λ e. refl) refl) (rests-is c lets accepted) refl refl refl (λ t. refl) refl (omega arith)
+      starts (c .call) lets (λ i is e d. (e, d)) rq (push-breaks c lets refl rq _ (λ e. rests-is c lets (broke e)) live (λ t e. refl) (λ e. refl) (λ e. refl)) (rests-is c lets accepted) refl refl refl (λ t. refl) refl (omega arith)
   open-ok (call (snd2 p m f)) lets =
       let c : Site = at (call (snd2 p m f)) in
       let rq : Request = requestOf (snd2 p m f) in
-      starts (c .call) lets (λ i is e d. (e, d)) rq (push-breaks c lets refl rq _ (λ e. rests-is c lets (broke e)) live (λ t e. refl) (λ e. refl) refl) (rests-is c lets accepted) refl refl refl (λ t. refl) refl (omega arith)
+      starts (c .call) lets (λ i is e d. (e, d)) rq (push-breaks c lets refl rq _ (λ e. rests-is c lets (broke e)) live (λ t e. refl) (λ e. refl) (λ e. refl)) (rests-is c lets accepted) refl refl refl (λ t. refl) refl (omega arith)
   open-ok (call (chunk x)) lets =
       let c : Site = sending h w s x in
       let moves : Bool → ℕ = λ b. pick b (length (held s)) (s .ses .buf .tail) in
       data-ok h w s x lets live
       (λ some. push-breaks c lets refl Q.Data _ (λ e. rests-is c lets (broke e) ∙ ap moves (data-compacts (broke e) x some)) live (λ t e. refl) (λ e. refl)
-      refl)
+      (λ e. refl))
       (length x) 0 (omega arith) (s .ses .buf .tail) (enough (c .call) w) (w .writes) [] (started c) (mid-started c good)
       (λ none. rests-is c lets accepted ∙ ap moves (data-stays accepted x none)) (all-is c lets) (omega (arith, length-chunks (cut x)))
   open-ok (call (done t)) lets =
       let c : Site = at (call (done t)) in
-      bare-ok c lets good live (Q.Done t) (s .ses .buf .tail) (push-breaks c lets refl (Q.Done t) _ (λ e. rests-is c lets (broke e)) live (λ t e. refl) (λ e. refl) refl)
+      bare-ok c lets good live (Q.Done t) (s .ses .buf .tail) (push-breaks c lets refl (Q.Done t) _ (λ e. rests-is c lets (broke e)) live (λ t e. refl) (λ e. refl) (λ e. refl))
       (λ f i t l x. reads (c .call) lets f i (all c) (tidied t) W.Okay refl l (mid-at c (tidied t) (mid-tidied c t x) (rests-is c lets accepted)) refl (λ msg y. refl) refl)
       (enough (c .call) w) refl refl refl refl (omega arith)
   open-ok (call quit) lets =
@@ -164,9 +166,9 @@ composed-none nextChunk n = refl
 pub call-ok : (h : Host) (w : World) (s : St) (q : Call) → Good s → s .ses .pending ≡ Idle
     → Comes (configOf (s .ses) (h .close)) (h .end) q (held s ++ w .left) (length (held s)) (s .ses .buf .tail) (s .msg) (runCall core h q w (s .ses) (s .rx) (s .msg))
 unfolding plain
-call-ok h w s q good i = go (refusal (settingOf (s .ses)) q) refl (begins s q good i)
+call-ok h w s q good i = go (refusal (settingOf (s .ses)) q) refl (begins (h .spare w) s q good i)
   where
-    go : (o : Option P.Answer) → refusal (settingOf (s .ses)) q ≡ o → Begins s q o
+    go : (o : Option P.Answer) → refusal (settingOf (s .ses)) q ≡ o → Begins (h .spare w) s q o
         → Comes (configOf (s .ses) (h .close)) (h .end) q (held s ++ w .left) (length (held s)) (s .ses .buf .tail) (s .msg) (runCall core h q w (s .ses) (s .rx) (s .msg))
     go none r b = rw (b .1) (open-ok h w s good (b .0) q r [] (composed-none q (length (held s))))
     go (some a) r b =
@@ -179,8 +181,8 @@ module _ (h : Host) where
   -- a call that came to what it should is an entry as the plain reader has it, and the rest follows
   entry-ok : (g : Config) (q : Call) (qs : List Call) (v held₀ : List ℕ) (tail₀ : ℕ) (msg₀ : List ℕ) (k : World → Session → List ℕ → List ℕ → List Entry) (o : Run Session)
       → Comes g (h .end) q v (length held₀) tail₀ msg₀ o
-      → ((w : World) (t : St) → Good t → t .ses .pending ≡ Idle → configOf (t .ses) (g .close) ≡ after g q
-      → Faithful (after g q) (h .end) qs (held t ++ w .left) (k w (t .ses) (t .rx) (t .msg)))
+      → ((w : World) (t : St) → Good t → t .ses .pending ≡ Idle → configOf (t .ses) (g .close) ≡ configAfter g q
+      → Faithful (configAfter g q) (h .end) qs (held t ++ w .left) (k w (t .ses) (t .rx) (t .msg)))
       → Faithful g (h .end) (q ∷ qs) v (onRun core held₀ tail₀ msg₀ k o)
   entry-ok g q qs v held₀ tail₀ msg₀ k (over-with x rx msg a w) c rest = (
     record {
@@ -207,4 +209,4 @@ module _ (h : Host) where
       entry-ok g q qs (held s ++ w .left) (held s) (s .ses .buf .tail) (s .msg) (λ w′ x rx msg. logOf core h qs w′ x rx msg) (runCall core h q w (s .ses) (s .rx) (s .msg))
       (subst (λ (y : Config). Comes y (h .end) q (held s ++ w .left) (length (held s)) (s .ses .buf .tail) (s .msg) (runCall core h q w (s .ses) (s .rx) (s .msg))) c
       (call-ok h w s q good i))
-      (λ w′ t good′ i′ c′. faithful (after g q) qs w′ t good′ i′ (ap (λ (z : Report). configOf (t .ses) z) (ap (λ (y : Config). y .close) c) ∙ c′))
+      (λ w′ t good′ i′ c′. faithful (configAfter g q) qs w′ t good′ i′ (ap (λ (z : Report). configOf (t .ses) z) (ap (λ (y : Config). y .close) c) ∙ c′))

@@ -19,7 +19,7 @@ use Rattle.session.specs.Faithful.{piecesOf, compacts}
 use Rattle.session.specs.Host.{Host, World}
 use Rattle.session.specs.Shown.{paper}
 use Rattle.session.specs.State.{St, beside}
-use Rattle.session.specs.Steps.{carried, sent, resumed}
+use Rattle.session.specs.Sends.{carried, sent, resumed}
 use Rattle.session.proofs.Follows.{Breaks, told-ok}
 use Rattle.session.proofs.Sends.{message-ok}
 use Rattle.session.proofs.Site.{Site, free, all, rests, Goes, later, Mid, mid-at, LetIn, rests-is}
@@ -75,8 +75,8 @@ module _ (h : Host) (w : World) (s : St) (x : List ℕ) where
         rw (ne-eqb (length part) 0 (omega (arith, length-drop from x)))
         (message-ok sending live Q.Data (length (held s)) (later sending + 5 * length (left m (next x from)))
         (λ f′ i′ xs′ b′ r′ t′ e′ l′. breaks (omega (arith, length-drop from x)) f′ i′ xs′ b′ r′ t′ e′ (omega arith))
-        from part (omega (arith, length-drop from x)) (rw (part-is x from) (take-taken dataMost (drop from x))) refl (xs ++ ps) rest upto
-        (λ f′ i′ t′ l′ y′. go (length (held s)) f′ i′ (xs ++ ps) t′ y′ (λ _. moves) upto l′) f i xs t refl (λ a is e d. (e, d)) (omega arith) y refl)
+        from part (omega (arith, length-drop from x)) (rw (part-is x from) (take-taken dataMost (drop from x))) (xs ++ ps) rest upto
+        (λ f′ i′ t′ l′ y′. go (length (held s)) f′ i′ (xs ++ ps) t′ y′ (λ _. moves) upto l′) refl f i xs t refl (λ a is e d. (e, d)) (omega arith) y refl)
 
     pub data-ok : (m from : ℕ) → length (drop from x) ≤ m → Cuts m from
     data-ok zero from l = data-none zero from (omega arith)

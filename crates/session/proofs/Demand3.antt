@@ -12,13 +12,13 @@ use Rattle.protocol.specs.Calls.{Call}
 use Rattle.protocol.specs.Features.{featuresOf}
 use Rattle.protocol.specs.Reader.{Config, Report, plainAnswers}
 use Rattle.protocol.specs.Records.{argAt}
-use Rattle.reader.specs.Wider.{widen, Unstopped, Like, unreadAt}
-use Rattle.reader.proofs.Wider as Wider
+use Rattle.protocol_readers.specs.Wider.{widen, Unstopped, Like, unreadAt}
+use Rattle.protocol_readers.proofs.Wider as Wider
 use Rattle.features.specs.Meaning.{listed}
 use Rattle.recv_buf.specs.RecvBuf.{heldBytes}
 use Rattle.session.specs.Calls.{fresh, openRefusal}
 use Rattle.session.specs.Core.{core, featuresFrom, coreSystem}
-use Rattle.session.specs.Demand3.{System, CodedReport, AllWide, Side, reader, logFrom, answersOf, failLength, Demand3, Claim}
+use Rattle.session.specs.Demand3.{System, CodedFault, CodedReport, AllWide, Side, reader, logFrom, answersOf, failLength, Demand3, Claim}
 use Rattle.session.specs.EveryHost.{CodedHost, EveryHost}
 use Rattle.session.specs.Faithful.{Faithful}
 use Rattle.session.specs.Host.{Host, Entry, atStart, logOf}
@@ -85,10 +85,10 @@ module _ {X : Type 0} (S : System X) (banner : List ℕ) (close : Report) (qs : 
       }
     where
       o : AllAccepted A
-      o = log-accepts (S .engine) (a .host) (a .accepts) qs (atStart (a .incoming)) _ (a .rx) (a .msg)
+      o = log-accepts (S .engine) (a .host) (a .accepts) (a .reads) qs (atStart (a .incoming)) _ (a .rx) (a .msg)
 
       o′ : AllAccepted B
-      o′ = log-accepts (S .engine) (b .host) (b .accepts) qs (atStart (b .incoming)) _ (b .rx) (b .msg)
+      o′ = log-accepts (S .engine) (b .host) (b .accepts) (b .reads) qs (atStart (b .incoming)) _ (b .rx) (b .msg)
 
       answers : answersOf A ≡ plainAnswers g (a .host .end) qs (a .incoming)
       answers = log-answers (a .host .end) g qs (a .incoming) A o f
@@ -109,9 +109,9 @@ module _ {X : Type 0} (S : System X) (every : EveryHost S) (banner : List ℕ) (
       × Faithful (reader banner c close) (a .host .end) qs (a .incoming) (logFrom S banner qs a)
   side-ok =
       let z : CodedHost (a .host) =
-      record { writes = λ i. subst CodedReport (sym (a .accepts i)) tt; close = subst CodedReport (sym (a .closes)) coded; end = a .coded } in
+      record { reads = λ i. subst CodedFault (sym (a .reads i)) tt; writes = λ i. subst CodedReport (sym (a .accepts i)) tt; close = subst CodedReport (sym (a .closes)) coded; end = a .coded } in
       rw (sym (a .capacity), sym (a .closes))
-      (every banner (a .x) (a .rx) (a .msg) (a .placed) (omega (arith, a)) (omega (arith, a)) (a .wide) (a .host) z qs v (a .incoming) (a .bytes))
+      (every banner (a .x) (a .rx) (a .msg) (a .placed) (omega (arith, a)) (omega (arith, a)) (a .wide) (a .host) z (a .lends) qs v (a .incoming) (a .bytes))
 
 pub claimed : {X : Type 0} (S : System X) → EveryHost S → Claim S
 claimed S every banner close qs c d least wide coded v a b more e =
@@ -144,7 +144,7 @@ module _ (banner rx msg : List ℕ) (least : 8 ≤ length rx) (room : length rx 
   unfolding heldBytes
   begins-empty = rw (le-leb 0 (length rx) (omega arith))
 
-  -- against any host, also one whose writes and close come to faults
+  -- against any host, also one whose reads, writes and close come to faults
   pub begins-faithful : (h : Host) (qs : List Call) (incoming : List ℕ)
       → Faithful (reader banner (length rx) (h .close)) (h .end) qs incoming (logOf core h qs (atStart incoming) (begins .ses) rx msg)
   begins-faithful h qs incoming =
@@ -153,7 +153,7 @@ module _ (banner rx msg : List ℕ) (least : 8 ≤ length rx) (room : length rx 
       (faithful h g qs (atStart incoming) begins begins-good refl (rw (features-listed banner)))
 
 pub core-hosts : EveryHost coreSystem
-core-hosts banner x rx msg placed least room wide h z qs v incoming b =
+core-hosts banner x rx msg placed least room wide h z lends qs v incoming b =
     (opens banner rx msg least room, rw (opens banner rx msg least room) (begins-faithful banner rx msg least room h qs incoming))
 
 pub core-claim : Claim coreSystem

@@ -10,7 +10,7 @@ use Rattle.protocol.specs.Answers as P
 use Rattle.protocol.specs.Answers.{End, closed, error}
 use Rattle.protocol.specs.Bytes.{pick}
 use Rattle.protocol.specs.Messages.{pieces}
-use Rattle.protocol.specs.Reader.{Prog, answer, Result, plain, Report, accepted, broke, closing, written, pushBroke, writeBroke, onReport, program, endOf, isQuit, after}
+use Rattle.protocol.specs.Reader.{Prog, answer, Result, plain, Report, accepted, broke, closing, written, pushBroke, writeBroke, onReport, program, endOf, isQuit, configAfter}
 use Rattle.request.specs.declared.Request.{Request}
 use Rattle.session.specs.declared.Answer.{Answer}
 use Rattle.session.specs.declared.Answer.the-variants as A
@@ -27,7 +27,8 @@ use Rattle.session.specs.Reports.{faultAnswer, pushFault, writeFault, wr
 use Rattle.session.specs.Shown.{paper}
 use Rattle.session.specs.State as S
 use Rattle.session.specs.State.{St, st, Out, shut}
-use Rattle.session.specs.Steps.{readOn, told, closingOut, resumed}
+use Rattle.session.specs.Steps.{readOn}
+use Rattle.session.specs.Sends.{told, closingOut, resumed}
 use Rattle.session.proofs.Buf.{good-pending}
 use Rattle.session.proofs.Run.{configIn, configOf, Heeds, fault-step, wrote-step, fault-told, run-told, reading-ok}
 use Rattle.session.proofs.Site.{once, Site, lent, reader, rests, all, unread, Ok, wrote, Goes, later, started, Mid, mid-at, mid-pending, mid-runs, mid-lends, LetIn, program-is}
@@ -47,7 +48,7 @@ Breaks c z n rq =
 
 module _ (c : Site) (lets : LetIn c) where
   module _ (stays : isQuit (c .call) ≡ false) where
-    config : configOf (started c .ses) (c .host .close) ≡ after (reader c) (c .call)
+    config : configOf (started c .ses) (c .host .close) ≡ configAfter (reader c) (c .call)
     config = rw stays
 
     heeds : (xs : List (List ℕ)) (i : ℕ) (bs : List Broken) (is : List ℕ) → Composed (c .call) (length (held (c .state))) is → Accepted (all c) xs bs
@@ -75,15 +76,15 @@ module _ (c : Site) (lets : LetIn c) where
         → Mid c (rests c (outcomeOf bs)) t → Accepted (all c) xs bs
         → ((msg y : List ℕ) → plain (c .state .ses .capacity) (onReport (reader c) (outcomeOf bs) (c .call)) y
         ≡ plain (c .state .ses .capacity) (restOf (c .state .ses .capacity) msg (Header x)) y)
-        → ((rx msg : List ℕ) → paper rx msg (pick lost A.Closed (faultAnswer (faultOf (c .host .end)))) ≡ P.broken (endOf (c .host .end) (outcomeOf bs) (c .call)))
+        → ((e : End) (rx msg : List ℕ) → paper rx msg (pick lost A.Closed (faultAnswer (faultOf e))) ≡ P.broken (endOf e (outcomeOf bs) (c .call)))
         → meetsHeader (onReport (reader c) (outcomeOf bs) (c .call)) ≡ true
         → Goes c f i xs bs (readOn t (Header x) lost)
     header-ok f i xs bs t x lost live l m p e z meets is d =
         let φ : Frame = frameOf (started c .ses) in
         let o : Out = readOn t (Header x) lost in
         let G : List ℕ → Result = λ y. plain (c .state .ses .capacity) (program (reader c) (outcomeOf bs) (c .call)) (held t ++ y) in
-        reading-ok (c .host) (reader c) (c .call) (unread c) (length (held (c .state))) (c .state .ses .buf .tail) (c .state .msg) φ lost (outcomeOf bs) live refl config z f (wrote c i xs bs is) (held t) o
-        (omega arith) refl
+        reading-ok (c .host) (reader c) (c .call) (unread c) (length (held (c .state))) (c .state .ses .buf .tail) (c .state .msg) φ lost (outcomeOf bs) (lent c) live refl config z f (wrote c i xs bs is) (held t) o
+        (omega arith) refl refl
         (ap (λ (y : List ℕ). y ++ c .world .left) (sym (m .same))) tt (heeds xs i bs is d p)
         (kept-eq φ lost G (at t (Header x)) o
         (λ y. ap (λ (k : Prog). plain (c .state .ses .capacity) k (held t ++ y)) (program-is c lets (outcomeOf bs)) ∙ e (t .msg) (held t ++ y)
@@ -105,12 +106,12 @@ module _ (c : Site) (lets : LetIn c) where
 
     pub push-breaks : (rq : Request) (z : ℕ) → ((e : End) → rests c (broke e) ≡ z) → c .state .ses .ended ≡ false → ((t : St) (e : Fault) → writeFault t rq e ≡ pushFault t e)
         → ((e : End) → writeBroke (reader c) e (c .call) ≡ pushBroke (reader c) e)
-        → endOf (c .host .end) (broke closed) (c .call) ≡ closed → Breaks c z (later c) rq
+        → ((e : End) → endOf e (broke closed) (c .call) ≡ closed) → Breaks c z (later c) rq
     unfolding paper cont wants
     push-breaks rq z rest-at live faults breaks ends f i xs b rest t closed l x split =
         rw (faults t (faultOf closed))
         (header-ok f i xs (once xs b closed) t W.Nothing true live l (mid-at c t x (rest-at closed)) (rest, (split, refl))
-        (λ msg y. ap (λ (k : Prog). plain (c .state .ses .capacity) k y) (breaks closed)) (λ rx msg. ap P.broken (sym ends)) (ap meetsHeader (breaks closed)))
+        (λ msg y. ap (λ (k : Prog). plain (c .state .ses .capacity) k y) (breaks closed)) (λ e rx msg. ap P.broken (sym (ends e))) (ap meetsHeader (breaks closed)))
     push-breaks rq z rest-at live faults breaks ends f i xs b rest t (error k) l x split =
         rw (faults t (faultOf (error k))) (told-ok f i xs (once xs b (error k)) t (A.Error k) (omega arith) (mid-at c t x (rest-at (error k))) (rest, (split, refl)) (breaks (error k)))
 

@@ -1,6 +1,7 @@
 -- The session's steps against the plain reader: what the buffers hold, the needs between two reads, a call against a host, every list
 -- of calls, demand 3.
 pub mod Misfit
+pub mod Refused
 pub mod Buf
 pub mod Turns
 pub mod Text
@@ -16,3 +17,6 @@ pub mod Calls
 pub mod Accepts
 pub mod Logs
 pub mod Demand3
+pub mod Places
+pub mod Examples
+pub mod Scripted

@@ -10,8 +10,9 @@ use lib.Dec.{eqb, ltb}
 use lib.ListN.{length, getD}
 use Rattle.protocol.specs.Answers as P
 use Rattle.protocol.specs.Bytes.{pick, has}
-use Rattle.protocol.specs.Calls as C
-use Rattle.protocol.specs.Calls.{Call, call, nextEntry, nextChunk, Setting, orElse, refuse, pathRefusal, flagRefusal, featureRefusal, transferRefusal, askFeature, requestRefusal, refusal, messages}
+use Rattle.protocol.specs.Refusal as C
+use Rattle.protocol.specs.Calls.{Call, call, nextEntry, nextChunk, messages}
+use Rattle.protocol.specs.Refusal.{Setting, orElse, refuse, pathRefusal, flagRefusal, featureRefusal, transferRefusal, askFeature, requestRefusal, refusal}
 use Rattle.protocol.specs.Flags.{bit, dryRun, refusedFlags}
 use Rattle.protocol.specs.Ids.{Dialect}
 use Rattle.protocol.specs.Messages.{PathOnly, stat, sta2, list, lis2, recv, Request, ask, rcv2, send, snd2, chunk, done, quit}
@@ -20,13 +21,14 @@ use Rattle.request.specs.Meaning.{meant}
 use Rattle.session.specs.declared.Pending.the-variants.{Idle}
 use Rattle.session.specs.declared.Phase.the-variants.{Header}
 use Rattle.session.specs.declared.Want.the-variants as W
-use Rattle.session.specs.Calls.{callRefusal, unless, refusalOf, settingOf, answerOf, orRefuse, startCall, entryCall, chunkCall}
+use Rattle.session.specs.Calls.{callRefusal, refusedOr, refusalOf, settingOf, answerOf, orRefuse, startCall, entryCall, chunkCall}
 use Rattle.session.specs.Core.{requestOf, versionOf, stepOf, begin, core}
 use Rattle.session.specs.Faithful.{closesFor}
-use Rattle.session.specs.Host.{told, Host, World, newCall, lentOf, over-with, run, enough, runCall}
+use Rattle.session.specs.Host.{told, Spare, Host, World, newCall, lentOf, over-with, run, enough, runCall}
 use Rattle.session.specs.Shown.{paper}
 use Rattle.session.specs.State.{St, st, Out, beside, begun, Good}
-use Rattle.session.specs.Steps.{readOn, tidied, carried, sent}
+use Rattle.session.specs.Steps.{readOn}
+use Rattle.session.specs.Sends.{tidied, carried, sent}
 use Rattle.session.proofs.Misfit.{fits-misfit}
 
 -- ---- what the plain reader refuses by
@@ -115,32 +117,34 @@ refused-stays g nextChunk a e = refl
 -- ---- the session
 
 -- the first step of a call that is let in
-abbrev pub openOf : Call → St → Out
-openOf (call r) s =
-    beside (sent (begun (s .ses) (length (lentOf (call r)))) (s .rx) (requestOf r) 0 (carried (requestOf r) 0 (lentOf (call r)))) (s .msg)
-openOf (nextEntry v) s = readOn (st (begun (s .ses) 0) (s .rx) (s .msg)) (Header (W.Entry (versionOf v))) false
-openOf nextChunk s = readOn (tidied (st (begun (s .ses) 0) (s .rx) (s .msg))) (Header W.Chunk) false
+abbrev pub openOf : Call → (lent : List ℕ) → St → Out
+openOf (call r) lent s = beside (sent (begun (s .ses) (length lent)) (s .rx) (requestOf r) 0 (carried (requestOf r) 0 lent)) (s .msg)
+openOf (nextEntry v) lent s = readOn (st (begun (s .ses) (length lent)) (s .rx) (s .msg)) (Header (W.Entry (versionOf v))) false
+openOf nextChunk lent s = readOn (tidied (st (begun (s .ses) (length lent)) (s .rx) (s .msg))) (Header W.Chunk) false
 
-meant-request : (r : Request) → meant (requestOf r) (lentOf (call r)) ≡ r
-meant-request (ask stat p) = refl
-meant-request (ask sta2 p) = refl
-meant-request (ask list p) = refl
-meant-request (ask lis2 p) = refl
-meant-request (ask recv p) = refl
-meant-request (rcv2 p f) = refl
-meant-request (send p m) = refl
-meant-request (snd2 p m f) = refl
-meant-request (chunk x) = refl
-meant-request (done t) = refl
-meant-request quit = refl
+-- whatever a call lends that takes neither path nor data
+pub meant-request : (z : Spare) (r : Request) → meant (requestOf r) (lentOf z (call r)) ≡ r
+meant-request z (ask stat p) = refl
+meant-request z (ask sta2 p) = refl
+meant-request z (ask list p) = refl
+meant-request z (ask lis2 p) = refl
+meant-request z (ask recv p) = refl
+meant-request z (rcv2 p f) = refl
+meant-request z (send p m) = refl
+meant-request z (snd2 p m f) = refl
+meant-request z (chunk x) = refl
+meant-request z (done t) = refl
+meant-request z quit = refl
 
 -- the refusals in their order, then that step
-begin-open : (s : St) (q : Call) → begin s q ≡ unless (refusalOf s) s (orRefuse (C.callRefusal (settingOf (s .ses)) q) s (openOf q s))
+begin-open : (z : Spare) (s : St) (q : Call)
+    → begin s q (lentOf z q) ≡ refusedOr (refusalOf s) s (orRefuse (C.callRefusal (settingOf (s .ses)) q) s (openOf q (lentOf z q) s))
 unfolding startCall entryCall chunkCall
-begin-open s (call r) =
-    ap (λ (y : Request). unless (refusalOf s) s (orRefuse (requestRefusal (settingOf (s .ses)) y) s (openOf (call r) s))) (meant-request r)
-begin-open s (nextEntry v) = refl
-begin-open s nextChunk = refl
+begin-open z s (call r) =
+    ap (λ (y : Request). refusedOr (refusalOf s) s (orRefuse (requestRefusal (settingOf (s .ses)) y) s (openOf (call r) (lentOf z (call r)) s)))
+    (meant-request z r)
+begin-open z s (nextEntry v) = refl
+begin-open z s nextChunk = refl
 
 -- 3 and 4 do not befall a call of a session that fits and is idle
 call-refusal : (s : St) → Good s → s .ses .pending ≡ Idle → refusalOf s ≡ pick (s .ses .ended) 6 0
@@ -149,10 +153,10 @@ call-refusal s good i = rw (fits-misfit (s .ses) (length (s .rx)) (length (s .ms
 
 -- What a call begins with, by what the plain reader says: its first step, of a session that has not ended; or, refused with the answer
 -- a, the session and both buffers as they were.
-abbrev pub Begins : St → Call → Option P.Answer → Type 0
-Begins s q none = (s .ses .ended ≡ false) × (begin s q ≡ openOf q s)
-Begins s q (some a) =
-    (stepOf (begin s q) ≡ record { x = s .ses; rx = s .rx; msg = s .msg; show = told a })
+abbrev pub Begins : Spare → St → Call → Option P.Answer → Type 0
+Begins z s q none = (s .ses .ended ≡ false) × (begin s q (lentOf z q) ≡ openOf q (lentOf z q) s)
+Begins z s q (some a) =
+    (stepOf (begin s q (lentOf z q)) ≡ record { x = s .ses; rx = s .rx; msg = s .msg; show = told a })
     × (((isQuit q || s .ses .ended) ≡ s .ses .ended) × (closesFor (isQuit q) (s .ses .ended) [] ≡ []))
 
 or-true : (b : Bool) → (b || true) ≡ true
@@ -163,20 +167,20 @@ closes-ended : (b : Bool) → closesFor b true [] ≡ []
 closes-ended true = refl
 closes-ended false = refl
 
-pub begins : (s : St) (q : Call) → Good s → s .ses .pending ≡ Idle → Begins s q (refusal (settingOf (s .ses)) q)
+pub begins : (z : Spare) (s : St) (q : Call) → Good s → s .ses .pending ≡ Idle → Begins z s q (refusal (settingOf (s .ses)) q)
 unfolding refusal paper
-begins s q good i = go (s .ses .ended) (C.callRefusal (settingOf (s .ses)) q) refl refl
+begins z s q good i = go (s .ses .ended) (C.callRefusal (settingOf (s .ses)) q) refl refl
   where
-    step : begin s q ≡ unless (pick (s .ses .ended) 6 0) s (orRefuse (C.callRefusal (settingOf (s .ses)) q) s (openOf q s))
-    step = begin-open s q ∙ ap (λ (k : ℕ). unless k s (orRefuse (C.callRefusal (settingOf (s .ses)) q) s (openOf q s))) (call-refusal s good i)
+    step : begin s q (lentOf z q) ≡ refusedOr (pick (s .ses .ended) 6 0) s (orRefuse (C.callRefusal (settingOf (s .ses)) q) s (openOf q (lentOf z q) s))
+    step = begin-open z s q ∙ ap (λ (k : ℕ). refusedOr k s (orRefuse (C.callRefusal (settingOf (s .ses)) q) s (openOf q (lentOf z q) s))) (call-refusal s good i)
 
     go : (b : Bool) (o : Option P.Answer) → s .ses .ended ≡ b → C.callRefusal (settingOf (s .ses)) q ≡ o
-        → Begins s q (orElse (refuse b (P.refused 6)) o)
+        → Begins z s q (orElse (refuse b (P.refused 6)) o)
     go true o e r = (ap stepOf step ∙ rw e, (rw e (or-true (isQuit q)), rw e (closes-ended (isQuit q))))
     go false none e r = (e, step ∙ rw (r, e))
     go false (some a) e r =
-        let z : isQuit q ≡ false = refused-stays (settingOf (s .ses)) q a r in
-        (ap stepOf step ∙ rw (r, e, call-shows (settingOf (s .ses)) q a r (s .rx) (s .msg)), (rw z, rw z))
+        let y : isQuit q ≡ false = refused-stays (settingOf (s .ses)) q a r in
+        (ap stepOf step ∙ rw (r, e, call-shows (settingOf (s .ses)) q a r (s .rx) (s .msg)), (rw y, rw y))
 
 -- A refused call is over at once: the session and both buffers are as they were, and the host was asked nothing.
 pub refused : (h : Host) (w : World) (s : St) (q : Call) (a : P.Answer) → Good s → s .ses .pending ≡ Idle → refusal (settingOf (s .ses)) q ≡ some a
@@ -185,4 +189,4 @@ unfolding run
 refused h w s q a good i r =
     let n : ℕ = length (w .left) + (5 * length (messages q) + 4) in
     let e : enough q w ≡ suc n = omega arith in
-    rw (subst (Begins s q) r (begins s q good i) .0, e)
+    rw (subst (Begins (h .spare w) s q) r (begins (h .spare w) s q good i) .0, e)

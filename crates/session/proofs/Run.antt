@@ -4,19 +4,20 @@
 use Prim.Native.Nat.{ℕ, zero, suc, _+_, _-_, _≤_, _<_}
 use mathlib.Core.Bool.{Bool, false}
 use mathlib.Core.List.{List, [], _∷_, _++_, append-assoc, append-nil}
+use mathlib.Core.Option.{Option, none, some}
 use mathlib.Core.Path.{_≡_, refl, sym, ap, _∙_, subst}
 use native.Mathlib.Omega.{arith}
 use borrow.Author.Tests.{lt-ltb, le-leb, eq-eqb}
 use lib.ListN.{length, take, drop, length-append, length-drop, take-append-drop}
-use lib.Seq.{length-take-le}
+use lib.Seq.{length-take-le, take-at}
 use Rattle.protocol.specs.Answers as P
 use Rattle.protocol.specs.Answers.{End, closed, error}
 use Rattle.protocol.specs.Bytes.{pick}
 use Rattle.protocol.specs.Calls.{Call}
 use Rattle.protocol.specs.Ids.{published}
-use Rattle.protocol.specs.Reader.{Result, short, plain, Config, Report, program, endOf, reply, plainCall, isQuit, after}
+use Rattle.protocol.specs.Reader.{Result, short, plain, Config, Report, program, endOf, Reply, reply, plainCall, isQuit, configAfter}
 use Rattle.protocol.proofs.Bytes.{over-length}
-use Rattle.reader.proofs.Needs.{plain-short}
+use Rattle.protocol_readers.proofs.Needs.{plain-short}
 use Rattle.features.specs.Meaning.{listed}
 use Rattle.recv_buf.specs.RecvBuf.{heldBytes}
 use Rattle.recv_buf.proofs.Laws.{held-length, window-keeps}
@@ -30,8 +31,8 @@ use Rattle.session.specs.declared.Reply.the-variants as R
 use Rattle.session.specs.declared.Session.{Session}
 use Rattle.session.specs.Calls.{isIdle}
 use Rattle.session.specs.Core.{faultOf, stepOf, core}
-use Rattle.session.specs.Faithful.{AtNeed, Brought, AllAtNeeds, callPieces, Accepted, closesFor, Composed, restsAt, tailAfter, windowAt, Placed, textOf, keeping}
-use Rattle.session.specs.Host.{Step, Host, Ask, World, outcomeOf, hasRead, counted, filling, windowed, lentOf, Run, over-with, unended, grantRead, granted, run}
+use Rattle.session.specs.Faithful.{AtNeed, Brought, AllAtNeeds, callPieces, Accepted, closesFor, Composed, restsAt, tailAfter, windowAt, Placed, textOf, keeping, cameOf, replyOf}
+use Rattle.session.specs.Host.{Step, Host, Ask, Stop, World, outcomeOf, hasRead, hasStopped, counted, filling, windowed, Run, over-with, unended, grantRead, granted, run}
 use Rattle.session.specs.Phases.{wants}
 use Rattle.session.specs.Reports.{reportRefusal, refusalAt, readIn, readAt, reportRead, wroteAt, reportWrote, faultAnswer, faultAt, reportFault}
 use Rattle.session.specs.Shown.{paper}
@@ -67,11 +68,11 @@ pub record Heeds (g : Config) (q : Call) (v : List ℕ) (n z : ℕ) (w : World) 
 pub record Over (g : Config) (e : End) (q : Call) (v : List ℕ) (n z : ℕ) (m : List ℕ) (t : St) (a : P.Answer) (w : World) : Type 0 where
   pub good : Good t
   pub still : t .ses .pending ≡ Idle
-  pub config : configOf (t .ses) (g .close) ≡ after g q
-  pub same : plainCall g e (outcomeOf (w .broken)) q v ≡ record { answer = a; unread = held t ++ w .left }
+  pub config : configOf (t .ses) (g .close) ≡ configAfter g q
+  pub same : replyOf (w .stopped) g e (outcomeOf (w .broken)) q v ≡ record { answer = a; unread = held t ++ w .left }
   pub heeds : Heeds g q v n z w
   pub ends : t .ses .buf .tail ≡ tailAfter (restsAt g (outcomeOf (w .broken)) q n z) (w .asks)
-  pub kept : t .msg ≡ keeping (textOf g (outcomeOf (w .broken)) q v) m
+  pub kept : t .msg ≡ keeping (textOf g (outcomeOf (w .broken)) q (cameOf (w .stopped) v)) m
 
 abbrev pub Comes : Config → End → Call → List ℕ → (n z : ℕ) → List ℕ → Run Session → Type 0
 Comes g e q v n z m (over-with x rx msg a w) = Over g e q v n z m (st x rx msg) a w
@@ -120,9 +121,9 @@ pub length-filling : (f : ℕ → ℕ) (n : ℕ) → length (filling f n) ≡ n
 length-filling f zero = refl
 length-filling f (suc n) = ap suc (length-filling f n)
 
-module _ (h : Host) (g : Config) (q : Call) (v : List ℕ) (n z : ℕ) (m : List ℕ) (φ : Frame) (lost : Bool) (r : Report) (runs : φ .ended ≡ false)
-    (size : φ .lent ≡ length (lentOf q)) (config : configIn φ (g .close) ≡ after g q)
-    (end-told : (rx msg : List ℕ) → paper rx msg (pick lost A.Closed (faultAnswer (faultOf (h .end)))) ≡ P.broken (endOf (h .end) r q)) where
+module _ (h : Host) (g : Config) (q : Call) (v : List ℕ) (n z : ℕ) (m : List ℕ) (φ : Frame) (lost : Bool) (r : Report) (lent : List ℕ) (runs : φ .ended ≡ false)
+    (size : φ .lent ≡ length lent) (config : configIn φ (g .close) ≡ configAfter g q)
+    (end-told : (e : End) (rx msg : List ℕ) → paper rx msg (pick lost A.Closed (faultAnswer (faultOf e))) ≡ P.broken (endOf e r q)) where
   -- the plain reader, given the bytes x
   abbrev G : List ℕ → Result
   G x = plain (g .capacity) (program g r q) x
@@ -139,16 +140,24 @@ module _ (h : Host) (g : Config) (q : Call) (v : List ℕ) (n z : ℕ) (m : List
   M x = keeping (textOf g r q x) m
 
   -- one step of the run, in the world w where the bytes u of v have come
-  module _ (w : World) (u : List ℕ) (t : St) (is : outcomeOf (w .broken) ≡ r) (come : v ≡ u ++ w .left) (brought : Brought (w .asks)) (heeds : Heeds g q v n z w)
+  module _ (w : World) (u : List ℕ) (t : St) (is : outcomeOf (w .broken) ≡ r) (on-time : w .stopped ≡ none) (come : v ≡ u ++ w .left) (brought : Brought (w .asks)) (heeds : Heeds g q v n z w)
       (place : t .ses .buf .tail ≡ tailIn (g .capacity) (t .ses .pending) (length (held t)) (tail w))
       (texts : (x : List ℕ) → M (u ++ x) ≡ textIn (g .capacity) (t .ses .pending) (t .msg) (held t ++ x))
       (k : World → Step Session → Run Session)
       (ends : (w′ : World) (t′ : St) (a : Answer) → k w′ (stepOf (telling t′ a)) ≡ over-with (t′ .ses) (t′ .rx) (t′ .msg)
       (paper (t′ .rx) (t′ .msg) a) w′)
-      (on : (w′ : World) (u′ : List ℕ) (o : Out) → length (w′ .left) < length (w .left) → outcomeOf (w′ .broken) ≡ r → v ≡ u′ ++ w′ .left → Brought (w′ .asks) → Heeds g q v n z w′
+      (on : (w′ : World) (u′ : List ℕ) (o : Out) → length (w′ .left) < length (w .left) → outcomeOf (w′ .broken) ≡ r → w′ .stopped ≡ none → v ≡ u′ ++ w′ .left → Brought (w′ .asks) → Heeds g q v n z w′
       → Kept φ lost (λ x. G (u′ ++ x)) o → Tails (g .capacity) (tail w′) o → Texts (g .capacity) (λ x. M (u′ ++ x)) o → Ok (k w′ (stepOf o))) where
-    in-the-end : keeping (textOf g (outcomeOf (w .broken)) q v) m ≡ textIn (g .capacity) (t .ses .pending) (t .msg) (held t ++ w .left)
-    in-the-end = ap (λ (r′ : Report). keeping (textOf g r′ q v) m) is ∙ ap M come ∙ texts (w .left)
+    -- the plain reader is given all of v
+    given-all : replyOf (w .stopped) g (h .end) (outcomeOf (w .broken)) q v ≡ reply (endOf (h .end) r q) (G (u ++ w .left))
+    given-all =
+        ap (λ (s : Option Stop). replyOf s g (h .end) (outcomeOf (w .broken)) q v) on-time ∙ ap (λ (r′ : Report). plainCall g (h .end) r′ q v) is
+        ∙ ap (λ (y : List ℕ). reply (endOf (h .end) r q) (G y)) come
+
+    in-the-end : keeping (textOf g (outcomeOf (w .broken)) q (cameOf (w .stopped) v)) m ≡ textIn (g .capacity) (t .ses .pending) (t .msg) (held t ++ w .left)
+    in-the-end =
+        ap (λ (s : Option Stop). keeping (textOf g (outcomeOf (w .broken)) q (cameOf s v)) m) on-time ∙ ap (λ (r′ : Report). keeping (textOf g r′ q v) m) is
+        ∙ ap M come ∙ texts (w .left)
 
     module _ (i len : ℕ) (p : Phase) (x : Waits φ (λ y. G (u ++ y)) lost t i len p) where
       abbrev ask : ℕ → Ask
@@ -206,83 +215,108 @@ module _ (h : Host) (g : Config) (q : Call) (v : List ℕ) (n z : ℕ) (m : List
       ended : t .ses .ended ≡ false
       ended = ap (λ (ψ : Frame). ψ .ended) (x .frame) ∙ runs
 
-      lends : t .ses .lent ≡ length (lentOf q)
+      lends : t .ses .lent ≡ length lent
       lends = ap (λ (ψ : Frame). ψ .lent) (x .frame) ∙ size
 
+      -- fewer than are wanted, and nothing of the text is kept
+      text-stays : (y : List ℕ) → length y ≡ 0 → textIn (g .capacity) (t .ses .pending) (t .msg) (held t ++ y) ≡ t .msg
+      text-stays y empty =
+          let few : length (held t ++ y) < wants (g .capacity) p =
+          rw (sym capacity) (omega (arith, x, length-append (held t) y, held-length (t .rx) (t .ses .buf) (sound-of t (x .good)))) in
+          ap (λ (z : Pending). textIn (g .capacity) z (t .msg) (held t ++ y)) (x .pend) ∙ text-short (g .capacity) p (t .msg) (held t ++ y) few
+
+      -- the read comes to the fault e, in the world w′
+      module _ (e : End) (w′ : World) (f : ℕ → ℕ) where
+        stop-ok : replyOf (w′ .stopped) g (h .end) (outcomeOf (w′ .broken)) q v ≡ record { answer = P.broken (endOf e r q); unread = held t ++ w′ .left }
+            → Heeds g q v n z w′ → tailAfter (restsAt g (outcomeOf (w′ .broken)) q n z) (w′ .asks) ≡ i + 0
+            → keeping (textOf g (outcomeOf (w′ .broken)) q (cameOf (w′ .stopped) v)) m ≡ t .msg
+            → Ok (k w′ (stepOf (reportFault (st (t .ses) (windowed f (t .rx) i len []) (t .msg)) (length lent) (faultOf e))))
+        unfolding faultAt
+        stop-ok same heeds′ place′ kept =
+            let rx : List ℕ = windowed f (t .rx) i len [] in
+            let t₁ : St = st (t .ses) rx (t .msg) in
+            let a : Answer = pick lost A.Closed (faultAnswer (faultOf e)) in
+            subst (λ (o : Out). Ok (k w′ (stepOf o)))
+            (sym (fault-step t₁ (length lent) (window-good f [] (omega arith)) ended lends _ (x .pend) refl (faultOf e)))
+            (subst Ok (sym (ends w′ (st (S.at (t .ses) (t .ses .buf) Idle) rx (t .msg)) a))
+            (record {
+              good = good-pending t₁ (window-good f [] (omega arith)) Idle;
+              still = refl;
+              config = ap (λ (ψ : Frame). configIn ψ (g .close)) (x .frame) ∙ config;
+              same = same ∙ ap (λ (b : P.Answer). record { answer = b; unread = held t ++ w′ .left }) (sym (end-told e rx (t .msg)))
+                  ∙ ap (λ (y : List ℕ). record { answer = paper rx (t .msg) a; unread = y ++ w′ .left }) (sym (window-held f [] (omega arith)));
+              heeds = heeds′;
+              ends = omega (arith, x, place′);
+              kept = sym kept;
+            }))
+
       -- all has come: the end error
-      stop-ok : length (w .left) ≡ 0 → (f : ℕ → ℕ)
-          → Ok (k (hasRead 0 (ask 0) w) (stepOf (reportFault (st (t .ses) (windowed f (t .rx) i len []) (t .msg)) (length (lentOf q)) (faultOf (h .end)))))
-      unfolding faultAt
-      stop-ok none f =
-          let rx : List ℕ = windowed f (t .rx) i len [] in
-          let t₁ : St = st (t .ses) rx (t .msg) in
-          let a : Answer = pick lost A.Closed (faultAnswer (faultOf (h .end))) in
-          let e : End = endOf (h .end) r q in
-          subst (λ (o : Out). Ok (k (hasRead 0 (ask 0) w) (stepOf o)))
-          (sym (fault-step t₁ (length (lentOf q)) (window-good f [] (omega arith)) ended lends _ (x .pend) refl (faultOf (h .end))))
-          (subst Ok (sym (ends (hasRead 0 (ask 0) w) (st (S.at (t .ses) (t .ses .buf) Idle) rx (t .msg)) a))
-          (record {
-            good = good-pending t₁ (window-good f [] (omega arith)) Idle;
-            still = refl;
-            config = ap (λ (ψ : Frame). configIn ψ (g .close)) (x .frame) ∙ config;
-            same = ap (λ (r′ : Report). plainCall g (h .end) r′ q v) is ∙ ap (λ (y : List ℕ). reply e (G y)) come ∙ ap (reply e)
-                (falls (w .left) none)
-                ∙ ap (λ (b : P.Answer). record { answer = b; unread = held t ++ w .left }) (sym (end-told rx (t .msg)))
-                ∙ ap (λ (y : List ℕ). record { answer = paper rx (t .msg) a; unread = y ++ w .left }) (sym (window-held f [] (omega arith)));
-            heeds = read-heeds 0;
-            ends = omega (arith, x);
-            kept =
-                let few : length (held t ++ w .left) < wants (g .capacity) p =
-                rw (sym capacity) (omega (arith, x, length-append (held t) (w .left), held-length (t .rx) (t .ses .buf) (sound-of t (x .good)))) in
-                sym
-                (in-the-end ∙ ap (λ (z : Pending). textIn (g .capacity) z (t .msg) (held t ++ w .left)) (x .pend)
-                ∙ text-short (g .capacity) p (t .msg) (held t ++ w .left) few);
-          }))
+      end-ok : length (w .left) ≡ 0 → (f : ℕ → ℕ)
+          → Ok (k (hasRead 0 (ask 0) w) (stepOf (reportFault (st (t .ses) (windowed f (t .rx) i len []) (t .msg)) (length lent) (faultOf (h .end)))))
+      end-ok empty f =
+          stop-ok (h .end) (hasRead 0 (ask 0) w) f (given-all ∙ ap (reply (endOf (h .end) r q)) (falls (w .left) empty)) (read-heeds 0) refl
+          (in-the-end ∙ text-stays (w .left) empty)
+
+      -- the read comes to a fault too early: the plain reader is given u alone
+      early-ok : (e : End) (f : ℕ → ℕ)
+          → Ok (k (hasStopped e (hasRead 0 (ask 0) w)) (stepOf (reportFault (st (t .ses) (windowed f (t .rx) i len []) (t .msg)) (length lent) (faultOf e))))
+      early-ok e f =
+          let front : take (length v - length (w .left)) v ≡ u ++ [] =
+          ap (λ (y : List ℕ). take (length y - length (w .left)) y) come
+          ∙ take-at u (w .left) (length (u ++ w .left) - length (w .left)) (omega (arith, length-append u (w .left))) ∙ sym (append-nil u) in
+          let nothing : held t ++ [] ≡ held t = append-nil (held t) in
+          stop-ok e (hasStopped e (hasRead 0 (ask 0) w)) f
+          (ap (λ (y : Reply). record { answer = y .answer; unread = y .unread ++ w .left })
+          (ap (λ (r′ : Report). plainCall g e r′ q (take (length v - length (w .left)) v)) is
+          ∙ ap (λ (y : List ℕ). reply (endOf e r q) (G y)) front ∙ ap (reply (endOf e r q)) (falls [] refl))
+          ∙ ap (λ (y : List ℕ). record { answer = P.broken (endOf e r q); unread = y ++ w .left }) nothing)
+          (record { asks = read-heeds 0 .asks; pieces = heeds .pieces; composed = heeds .composed; closes = heeds .closes; windows = read-heeds 0 .windows }) refl
+          (ap (λ (r′ : Report). keeping (textOf g r′ q (take (length v - length (w .left)) v)) m) is ∙ ap M front ∙ texts [] ∙ text-stays [] refl)
 
       -- some of it came
       came-ok : (j : ℕ) → 1 ≤ j → j ≤ len → j ≤ length (w .left) → (f : ℕ → ℕ)
-          → Ok (k (hasRead j (ask j) w) (stepOf (reportRead (st (t .ses) (windowed f (t .rx) i len (take j (w .left))) (t .msg)) (length (lentOf q)) j)))
+          → Ok (k (hasRead j (ask j) w) (stepOf (reportRead (st (t .ses) (windowed f (t .rx) i len (take j (w .left))) (t .msg)) (length lent) j)))
       unfolding readAt
       came-ok j a b c f =
           let y : List ℕ = take j (w .left) in
           let e : length y ≡ j = length-take-le j (w .left) c in
           let t₁ : St = st (t .ses) (windowed f (t .rx) i len y) (t .msg) in
           let until : ℕ → Out = λ m. readIn t₁ p (t .ses .buf .head + wants (t .ses .capacity) p) lost m in
-          on (hasRead j (ask j) w) (u ++ y) (reportRead t₁ (length (lentOf q)) j) (omega (arith, length-drop j (w .left))) is
+          on (hasRead j (ask j) w) (u ++ y) (reportRead t₁ (length lent) j) (omega (arith, length-drop j (w .left))) is on-time
           (come ∙ ap (λ (z : List ℕ). u ++ z) (sym (take-append-drop j (w .left))) ∙ sym (append-assoc u y (drop j (w .left)))) (omega arith) (read-heeds j)
           (subst (λ (o : Out). Kept φ lost (λ z. G (u ++ y ++ z)) o)
-          (sym (read-step t₁ (length (lentOf q)) (window-good f y (omega arith)) ended lends _ (x .pend) refl j))
+          (sym (read-step t₁ (length lent) (window-good f y (omega arith)) ended lends _ (x .pend) refl j))
           (kept-eq φ lost (λ z. G (u ++ y ++ z)) (λ z. G (u ++ (y ++ z))) (until j) (λ z. ap G (append-assoc u y z))
           (subst (λ (m : ℕ). Kept φ lost (λ z. G (u ++ (y ++ z))) (until m)) e
           (stay-ok x y (filling f (len - length y)) (omega arith) (omega (arith, x, length-filling f (len - length y)))))))
           (subst (Tails (g .capacity) (i + j))
-          (sym (read-step t₁ (length (lentOf q)) (window-good f y (omega arith)) ended lends _ (x .pend) refl j))
+          (sym (read-step t₁ (length lent) (window-good f y (omega arith)) ended lends _ (x .pend) refl j))
           (subst (λ (n′ : ℕ). Tails n′ (i + j) (until j)) capacity
           (subst (λ (j′ : ℕ). Tails (t .ses .capacity) (i + j′) (until j′)) e
           (stay-tail x y (filling f (len - length y)) (omega arith) (omega (arith, x, length-filling f (len - length y)))))))
           (subst (Texts (g .capacity) (λ z. M (u ++ y ++ z)))
-          (sym (read-step t₁ (length (lentOf q)) (window-good f y (omega arith)) ended lends _ (x .pend) refl j))
+          (sym (read-step t₁ (length lent) (window-good f y (omega arith)) ended lends _ (x .pend) refl j))
           (λ z.
           ap M (append-assoc u y z) ∙ texts (y ++ z) ∙ ap (λ (s : Pending). textIn (g .capacity) s (t .msg) (held t ++ (y ++ z))) (x .pend)
           ∙ subst (λ (n′ : ℕ). Texts n′ (λ a′. textAt n′ p (t .msg) (held t ++ (y ++ a′))) (until j)) capacity
           (subst (λ (i′ : ℕ). Texts (t .ses .capacity) (λ a′. textAt (t .ses .capacity) p (t .msg) (held t ++ (y ++ a′))) (until i′)) e
           (stay-text x y (filling f (len - length y)) (omega arith) (omega (arith, x, length-filling f (len - length y))))) z))
 
-      read-ok : (ls : List ℕ) → w .left ≡ ls → Ok (grantRead core h (lentOf q) k w step i len ls)
-      read-ok [] e = stop-ok (ap length e) (h .junk (w .reads))
-      read-ok (b ∷ bs) e =
+      read-ok : (ls : List ℕ) (fails : Option End) → w .left ≡ ls → Ok (grantRead core h lent k w step i len ls fails)
+      read-ok [] fails e = end-ok (ap length e) (h .junk (w .reads))
+      read-ok (b ∷ bs) (some d) e = early-ok d (h .junk (w .reads))
+      read-ok (b ∷ bs) none e =
           let some : 0 < length (w .left) = rw e (omega arith) in
           came-ok (counted (h .count (w .reads)) len (length (w .left))) (omega arith) (omega (arith, x)) (omega arith) (h .junk (w .reads))
 
     reply-ok : (o : R.the-data) → KeptOut φ lost (λ x. G (u ++ x)) t o
-        → Ok (granted core h (lentOf q) k w (stepOf (record { st = t; reply = o })) (stepOf (record { st = t; reply = o }) .show))
+        → Ok (granted core h lent k w (stepOf (record { st = t; reply = o })) (stepOf (record { st = t; reply = o }) .show))
     reply-ok (R.Told a) x =
         record {
           good = x .good;
           still = x .still;
           config = ap (λ (ψ : Frame). configIn ψ (g .close)) (x .frame) ∙ config;
-          same = ap (λ (r′ : Report). plainCall g (h .end) r′ q v) is ∙ ap (λ (y : List ℕ). reply (endOf (h .end) r q) (G y)) come ∙ ap
-              (reply (endOf (h .end) r q)) (x .same (w .left));
+          same = given-all ∙ ap (reply (endOf (h .end) r q)) (x .same (w .left));
           heeds = heeds;
           ends = place ∙ ap (λ (y : Pending). tailIn (g .capacity) y (length (held t)) (tail w)) (x .still);
           kept = sym (in-the-end ∙ ap (λ (z : Pending). textIn (g .capacity) z (t .msg) (held t ++ w .left)) (x .still));
@@ -290,16 +324,16 @@ module _ (h : Host) (g : Config) (q : Call) (v : List ℕ) (n z : ℕ) (m : List
     reply-ok (R.Read i len) x =
         let wide : 0 < len = omega (arith, x .1) in
         let inside : i + len ≤ length (t .rx) = omega (arith, x .1) in
-        rw (lt-ltb 0 len wide, le-leb (i + len) (length (t .rx)) inside) (read-ok i len (x .0) (x .1) (w .left) refl)
+        rw (lt-ltb 0 len wide, le-leb (i + len) (length (t .rx)) inside) (read-ok i len (x .0) (x .1) (w .left) (h .fails (w .reads)) refl)
     reply-ok (R.WriteRx i len) x = absurd x
     reply-ok (R.WriteLent i len) x = absurd x
     reply-ok (R.WriteBytes b) x = absurd x
     reply-ok R.Close x = absurd x
 
-  pub reading-ok : (f : ℕ) (w : World) (u : List ℕ) (o : Out) → length (w .left) + 1 < f → outcomeOf (w .broken) ≡ r → v ≡ u ++ w .left → Brought (w .asks) → Heeds g q v n z w
-      → Kept φ lost (λ x. G (u ++ x)) o → Tails (g .capacity) (tail w) o → Texts (g .capacity) (λ x. M (u ++ x)) o → Ok (run core h (lentOf q) f w (stepOf o))
+  pub reading-ok : (f : ℕ) (w : World) (u : List ℕ) (o : Out) → length (w .left) + 1 < f → outcomeOf (w .broken) ≡ r → w .stopped ≡ none → v ≡ u ++ w .left → Brought (w .asks) → Heeds g q v n z w
+      → Kept φ lost (λ x. G (u ++ x)) o → Tails (g .capacity) (tail w) o → Texts (g .capacity) (λ x. M (u ++ x)) o → Ok (run core h lent f w (stepOf o))
   unfolding run
-  reading-ok zero w u o l is come brought heeds x place texts = absurd (omega arith)
-  reading-ok (suc f) w u o l is come brought heeds x place texts =
-      reply-ok w u (o .st) is come brought heeds place texts (λ w′ s′. run core h (lentOf q) f w′ s′) (λ w′ t a. run-told h (lentOf q) f w′ t a (omega arith))
-      (λ w′ u′ o′ m is′ come′ brought′ heeds′ y place′ texts′. reading-ok f w′ u′ o′ (omega arith) is′ come′ brought′ heeds′ y place′ texts′) (o .reply) x
+  reading-ok zero w u o l is on-time come brought heeds x place texts = absurd (omega arith)
+  reading-ok (suc f) w u o l is on-time come brought heeds x place texts =
+      reply-ok w u (o .st) is on-time come brought heeds place texts (λ w′ s′. run core h lent f w′ s′) (λ w′ t a. run-told h lent f w′ t a (omega arith))
+      (λ w′ u′ o′ m is′ on-time′ come′ brought′ heeds′ y place′ texts′. reading-ok f w′ u′ o′ (omega arith) is′ on-time′ come′ brought′ heeds′ y place′ texts′) (o .reply) x

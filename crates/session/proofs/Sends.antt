@@ -15,9 +15,9 @@ use Rattle.protocol.specs.Calls.{messages}
 use Rattle.protocol.specs.Ids.{published}
 use Rattle.protocol.specs.Messages.{messageOf, bytesOfRequest, apart, pieces}
 use Rattle.protocol.specs.Reader.{Report, accepted, broke}
-use Rattle.piece.specs.Pieces.{headerOf, pieceList}
-use Rattle.piece.specs.declared.Piece.{Piece}
-use Rattle.piece.specs.declared.Piece.the-variants as P
+use Rattle.request_piece.specs.Pieces.{headerOf, partsOf, pieceList}
+use Rattle.request_piece.specs.declared.Piece.{Piece}
+use Rattle.request_piece.specs.declared.Piece.the-variants as P
 use Rattle.recv_buf.proofs.Laws.{held-length}
 use Rattle.request.specs.Meaning.{meant}
 use Rattle.request.specs.declared.Request.{Request}
@@ -30,14 +30,14 @@ use Rattle.session.specs.Faithful.{piecesOf, Composed}
 use Rattle.session.specs.Host.{Step, World, Run, grantWrite, granted, run}
 use Rattle.session.specs.Reports.{wroteAt, faultAt}
 use Rattle.session.specs.State.{St, st, Out, out, beside, at, Good}
-use Rattle.session.specs.Steps.{tidied, carried, pieceReply, sendPiece, messageOut, resumed, wroteOn}
+use Rattle.session.specs.Sends.{tidied, carried, pieceReply, sendPiece, messageOut, resumed, wroteOn}
 use Rattle.session.proofs.Buf.{sound-of}
 use Rattle.session.proofs.Follows.{Breaks, Follows}
 use Rattle.session.proofs.Run.{fault-step, wrote-step}
 use Rattle.session.proofs.Site.{once, Site, lent, free, all, Ok, wrote, Goes, later, started, Mid, mid-at, mid-started, mid-pending, mid-tidied, mid-runs, mid-lends, LetIn, all-is}
 use Rattle.session.proofs.Tail.{tidied-tail}
 use Rattle.session.proofs.Turns.{held, Frame}
-use Rattle.session.proofs.Writes.{bytesIn, apart-pieces, Sent, pieces-sent, piece-at, drop-rest, wrote-last, wrote-more, placed-good, placed-held, placed-there, placed-inside, message-whole, message-apart, pieces-whole, pieces-apart, pieces-bare}
+use Rattle.session.proofs.Writes.{bytesIn, apart-pieces, Sent, pieces-sent, rest-none, piece-at, drop-rest, wrote-last, wrote-more, placed-good, placed-held, placed-there, placed-inside, message-whole, message-apart, pieces-whole, pieces-apart, pieces-bare}
 
 module _ (c : Site) where
   -- a piece behind the held bytes may be added
@@ -63,7 +63,7 @@ module _ (c : Site) where
 
     -- A message that carries `part`, from `from` on; ys are the call's pieces up to its last.
     module _ (from : ℕ) (part : List ℕ) (fits : from + length part ≤ length (lent c)) (there : take (length part) (drop from (lent c)) ≡ part)
-        (carries : carried rq from (lent c) ≡ part) (ys todo : List (List ℕ)) (upto : all c ≡ ys ++ todo)
+        (ys todo : List (List ℕ)) (upto : all c ≡ ys ++ todo)
         (on : (f i : ℕ) (t : St) → n ≤ f → Mid c z t → Goes c f i ys [] (resumed t rq from (lent c))) where
       granted-piece : (k : World → Step Session → Run Session) (w′ : World) (s′ : Step Session) (p : Piece)
           → granted core (c .host) (lent c) k w′ s′ (showOf (s′ .rx) (s′ .msg) (pieceReply from (length part) p))
@@ -94,35 +94,7 @@ module _ (c : Site) where
           (upto ∙ ap (λ (y : List (List ℕ)). y ++ todo) e ∙ append-assoc xs (bytesIn part p ∷ map (bytesIn part) ps) todo)
           (next t₁ x₁) (c .host .writes i) is d))
 
-      -- a piece was accepted, and ps are still to go
-      pieces-ok : (ps : List Piece) (m f i k : ℕ) (xs : List (List ℕ)) (t : St) → Sent m ps → n + m ≤ f → 0 < k → Mid c z t
-          → drop k (pieceList rq (length part)) ≡ ps
-          → ys ≡ xs ++ map (bytesIn part) ps → Goes c f i xs [] (wroteOn t rq from k (lent c))
-      pieces-ok [] m f i k xs t z l p x at-k e =
-          rw (wrote-last t rq from k (lent c) p (rw carries at-k), sym (append-nil xs) ∙ sym e) (on f i t (omega arith) x)
-      pieces-ok (b ∷ ps) zero f i k xs t z l p x at-k e = absurd z
-      pieces-ok (b ∷ ps) (suc m) zero i k xs t z l p x at-k e = absurd (omega arith)
-      pieces-ok (b ∷ ps) (suc m) (suc f) i k xs t z l p x at-k e =
-          rw (wrote-more t rq from k (lent c) p b ps (rw carries at-k) (z .0), carries)
-          (piece-ok f i k xs t b ps (omega arith) x at-k e
-          (λ t′ x′. pieces-ok ps m f (i + 1) (k + 1) (xs ++ bytesIn part b ∷ []) t′ (z .1) (omega arith) (omega arith) x′
-          (drop-rest (pieceList rq (length part)) (b ∷ ps) k at-k)
-          (e ∙ sym (append-snoc xs (bytesIn part b) (map (bytesIn part) ps)))))
-
-      -- the message goes out in pieces, from the first
-      pub apart-ok : (f i : ℕ) (xs : List (List ℕ)) (t : St) → n + 5 ≤ f → Mid c z t → ys ≡ xs ++ apart published (meant rq part)
-          → Goes c f i xs [] (out (sendPiece (t .ses) rq from (length part) 0) (t .rx) (t .msg))
-      unfolding pieceList
-      apart-ok zero i xs t l x e = absurd (omega arith)
-      apart-ok (suc f) i xs t l x e =
-          let p : Piece = headerOf rq (length part) in
-          let ps : List Piece = drop 1 (pieceList rq (length part)) in
-          let e₁ : ys ≡ xs ++ bytesIn part p ∷ map (bytesIn part) ps = e ∙ ap (λ (y : List (List ℕ)). xs ++ y) (apart-pieces rq part) in
-          piece-ok f i 0 xs t p ps (omega arith) x refl e₁
-          (λ t′ x′. pieces-ok ps 4 f (i + 1) 1 (xs ++ bytesIn part p ∷ []) t′ (pieces-sent rq (length part) .1) (omega arith) (omega arith) x′ refl
-          (e₁ ∙ sym (append-snoc xs (bytesIn part p) (map (bytesIn part) ps))))
-
-      -- .. or whole, from the free end of the buffer
+      -- the message goes out whole, from the free end of the buffer
       whole-ok : {y : ℕ} (f i : ℕ) (xs : List (List ℕ)) (t : St) (m : List ℕ) → length (held (c .state)) ≡ z → Behind → n < f → Mid c y t → length (held t) + length m ≤ t .ses .capacity
           → ys ≡ xs ++ m ∷ []
           → Goes c f i xs [] (record {
@@ -146,31 +118,60 @@ module _ (c : Site) where
           (rw (sym e) (on f (i + 1) t₁ (omega arith) x₁)) (c .host .writes i) ((tidied t) .ses .buf .tail ∷ is)
           (behind ((tidied t) .ses .buf .tail) is (tidied-tail t (x .good) ∙ ap length (x .same)) d))
 
-      pub message-ok : {y : ℕ} (f i : ℕ) (xs : List (List ℕ)) (t : St) → length (held (c .state)) ≡ z → Behind → n + 5 ≤ f → Mid c y t
-          → ys ≡ xs ++ pieces published (free c) (meant rq part)
-          → Goes c f i xs [] (beside (messageOut (t .ses) (t .rx) rq from part) (t .msg))
-      message-ok f i xs t front behind l x e = go (decLe (length m) (free c))
-        where
-          m : List ℕ
-          m = bytesOfRequest published (meant rq part)
+      module _ (carries : carried rq from (lent c) ≡ part) where
+        -- a piece was accepted, and ps are still to go
+        pieces-ok : (ps : List Piece) (m f i k : ℕ) (xs : List (List ℕ)) (t : St) → Sent m ps → n + m ≤ f → 0 < k → Mid c z t
+            → drop k (pieceList rq (length part)) ≡ ps
+            → ys ≡ xs ++ map (bytesIn part) ps → Goes c f i xs [] (wroteOn t rq from k (lent c))
+        pieces-ok [] m f i k xs t z l p x at-k e =
+            rw (wrote-last t rq from k (lent c) p (rw carries at-k), sym (append-nil xs) ∙ sym e) (on f i t (omega arith) x)
+        pieces-ok (b ∷ ps) zero f i k xs t z l p x at-k e = absurd z
+        pieces-ok (b ∷ ps) (suc m) zero i k xs t z l p x at-k e = absurd (omega arith)
+        pieces-ok (b ∷ ps) (suc m) (suc f) i k xs t z l p x at-k e =
+            rw (wrote-more t rq from k (lent c) p b ps (rw carries at-k) (z .0), carries)
+            (piece-ok f i k xs t b ps (omega arith) x at-k e
+            (λ t′ x′. pieces-ok ps m f (i + 1) (k + 1) (xs ++ bytesIn part b ∷ []) t′ (z .1) (omega arith) (omega arith) x′
+            (drop-rest (pieceList rq (length part)) (b ∷ ps) k at-k)
+            (e ∙ sym (append-snoc xs (bytesIn part b) (map (bytesIn part) ps)))))
 
-          size : t .ses .capacity ≡ c .state .ses .capacity
-          size = ap (λ (ψ : Frame). ψ .capacity) (x .frame)
+        -- .. or in pieces, from the first
+        pub apart-ok : (f i : ℕ) (xs : List (List ℕ)) (t : St) → n + 5 ≤ f → Mid c z t → ys ≡ xs ++ apart published (meant rq part)
+            → Goes c f i xs [] (out (sendPiece (t .ses) rq from (length part) 0) (t .rx) (t .msg))
+        unfolding pieceList
+        apart-ok zero i xs t l x e = absurd (omega arith)
+        apart-ok (suc f) i xs t l x e =
+            let p : Piece = headerOf rq (length part) in
+            let ps : List Piece = drop 1 (pieceList rq (length part)) in
+            let e₁ : ys ≡ xs ++ bytesIn part p ∷ map (bytesIn part) ps = e ∙ ap (λ (y : List (List ℕ)). xs ++ y) (apart-pieces rq part) in
+            piece-ok f i 0 xs t p ps (omega arith) x refl e₁
+            (λ t′ x′. pieces-ok ps 4 f (i + 1) 1 (xs ++ bytesIn part p ∷ []) t′ (pieces-sent rq (length part) .1) (omega arith) (omega arith) x′ refl
+            (e₁ ∙ sym (append-snoc xs (bytesIn part p) (map (bytesIn part) ps))))
 
-          count : length (held t) ≡ length (held (c .state))
-          count = ap length (x .same)
+        pub message-ok : {y : ℕ} (f i : ℕ) (xs : List (List ℕ)) (t : St) → length (held (c .state)) ≡ z → Behind → n + 5 ≤ f → Mid c y t
+            → ys ≡ xs ++ pieces published (free c) (meant rq part)
+            → Goes c f i xs [] (beside (messageOut (t .ses) (t .rx) rq from part) (t .msg))
+        message-ok f i xs t front behind l x e = go (decLe (length m) (free c))
+          where
+            m : List ℕ
+            m = bytesOfRequest published (meant rq part)
 
-          go : Dec (length m ≤ free c) → Goes c f i xs [] (beside (messageOut (t .ses) (t .rx) rq from part) (t .msg))
-          go (yes fit) =
-              let within = held-length (t .rx) (t .ses .buf) (sound-of t (x .good)) in
-              let room : length (held t) + length m ≤ t .ses .capacity = omega (arith, x .good, size, count) in
-              rw (message-whole t (x .good) rq from part room)
-              (whole-ok f i xs t m front behind (omega arith) x room (e ∙ ap (λ (y : List (List ℕ)). xs ++ y) (pieces-whole (free c) (meant rq part) fit)))
-          go (no wide) =
-              let full : t .ses .capacity < length (held t) + length m = omega (arith, size, count) in
-              rw (message-apart t (x .good) rq from part full)
-              (apart-ok _ i xs (tidied t) l (mid-at c (tidied t) (mid-tidied c t x) (sym front))
-              (e ∙ ap (λ (y : List (List ℕ)). xs ++ y) (pieces-apart (free c) (meant rq part) (omega arith))))
+            size : t .ses .capacity ≡ c .state .ses .capacity
+            size = ap (λ (ψ : Frame). ψ .capacity) (x .frame)
+
+            count : length (held t) ≡ length (held (c .state))
+            count = ap length (x .same)
+
+            go : Dec (length m ≤ free c) → Goes c f i xs [] (beside (messageOut (t .ses) (t .rx) rq from part) (t .msg))
+            go (yes fit) =
+                let within = held-length (t .rx) (t .ses .buf) (sound-of t (x .good)) in
+                let room : length (held t) + length m ≤ t .ses .capacity = omega (arith, x .good, size, count) in
+                rw (message-whole t (x .good) rq from part room)
+                (whole-ok f i xs t m front behind (omega arith) x room (e ∙ ap (λ (y : List (List ℕ)). xs ++ y) (pieces-whole (free c) (meant rq part) fit)))
+            go (no wide) =
+                let full : t .ses .capacity < length (held t) + length m = omega (arith, size, count) in
+                rw (message-apart t (x .good) rq from part full)
+                (apart-ok _ i xs (tidied t) l (mid-at c (tidied t) (mid-tidied c t x) (sym front))
+                (e ∙ ap (λ (y : List (List ℕ)). xs ++ y) (pieces-apart (free c) (meant rq part) (omega arith))))
 
   -- a call of one message: with a path, or a header only
   module _ (lets : LetIn c) (good : Good (c .state)) (live : c .state .ses .ended ≡ false) (rq : Request) (z : ℕ) (breaks : Breaks c z (later c) rq)
@@ -178,15 +179,22 @@ module _ (c : Site) where
     pub path-ok : (f : ℕ) → length (held (c .state)) ≡ z → Behind → messages (c .call) ≡ meant rq (lent c) ∷ [] → carried rq 0 (lent c) ≡ lent c → later c + 5 ≤ f
         → Goes c f (c .world .writes) [] [] (beside (messageOut (started c .ses) (c .state .rx) rq 0 (lent c)) (c .state .msg))
     path-ok f front behind one carries l =
-        message-ok live rq z (later c) breaks 0 (lent c) (omega arith) (take-length (lent c)) carries (all c) [] (sym (append-nil (all c))) on f
+        message-ok live rq z (later c) breaks 0 (lent c) (omega arith) (take-length (lent c)) (all c) [] (sym (append-nil (all c))) on carries f
         (c .world .writes) [] (started c) front behind l (mid-started c good)
         (all-is c lets ∙ ap (piecesOf published (free c)) one ∙ append-nil (pieces published (free c) (meant rq (lent c))))
 
-    pub bare-ok : (f : ℕ) → c .state .ses .buf .tail ≡ z → messages (c .call) ≡ meant rq [] ∷ [] → messageOf published (meant rq []) .parts ≡ [] → carried rq 0 (lent c) ≡ []
-        → later c + 5 ≤ f
+    -- one piece, whatever is lent
+    pub bare-ok : (f : ℕ) → c .state .ses .buf .tail ≡ z → messages (c .call) ≡ meant rq [] ∷ [] → messageOf published (meant rq []) .parts ≡ []
+        → partsOf rq ≡ [] → later c + 5 ≤ f
         → Goes c f (c .world .writes) [] [] (out (sendPiece (started c .ses) rq 0 0 0) (c .state .rx) (c .state .msg))
-    bare-ok f still one bare carries l =
-        apart-ok live rq z (later c) breaks 0 [] (omega arith) refl carries (all c) [] (sym (append-nil (all c))) on f (c .world .writes) []
-        (started c) l (mid-at c (started c) (mid-started c good) (sym still))
+    unfolding pieceList
+    bare-ok zero still one bare none l = absurd (omega arith)
+    bare-ok (suc f) still one bare none l =
+        piece-ok live rq z (later c) breaks 0 [] (omega arith) refl (all c) [] (sym (append-nil (all c))) on f (c .world .writes) 0 [] (started c)
+        (headerOf rq 0) [] (omega arith) (mid-at c (started c) (mid-started c good) (sym still)) (rw none)
         (all-is c lets ∙ ap (piecesOf published (free c)) one ∙ append-nil (pieces published (free c) (meant rq []))
-        ∙ pieces-bare (free c) (meant rq []) bare)
+        ∙ pieces-bare (free c) (meant rq []) bare ∙ apart-pieces rq [] ∙ rw none)
+        (λ t′ x′. rw (wrote-last t′ rq 0 1 (lent c) (omega arith) (rest-none rq (length (carried rq 0 (lent c))) none))
+        (subst (λ (ys : List (List ℕ)). Goes c f (c .world .writes + 1) ys [] (resumed t′ rq 0 (lent c)))
+        (all-is c lets ∙ ap (piecesOf published (free c)) one ∙ append-nil (pieces published (free c) (meant rq []))
+        ∙ pieces-bare (free c) (meant rq []) bare ∙ apart-pieces rq [] ∙ rw none) (on f (c .world .writes + 1) t′ (omega arith) x′)))

@@ -8,9 +8,10 @@ use mathlib.Core.Path.{_≡_, refl, sym, ap, _∙_, subst}
 use lib.ListN.{length}
 use Rattle.protocol.specs.Answers.{Answer, End}
 use Rattle.protocol.specs.Bytes.{pick}
-use Rattle.protocol.specs.Calls.{Call, refusal, messages}
+use Rattle.protocol.specs.Calls.{Call, messages}
+use Rattle.protocol.specs.Refusal.{refusal}
 use Rattle.protocol.specs.Ids.{published}
-use Rattle.protocol.specs.Reader.{Config, Report, unless, onReport, program}
+use Rattle.protocol.specs.Reader.{Config, Report, unlessRefused, onReport, program}
 use Rattle.session.specs.declared.Pending.{Pending}
 use Rattle.session.specs.declared.Session.{Session}
 use Rattle.session.specs.Calls.{settingOf}
@@ -18,7 +19,7 @@ use Rattle.session.specs.Core.{stepOf, core}
 use Rattle.session.specs.Faithful.{piecesOf, unlessPieces, callPieces, Composed, compacts, unlessMoved, restsAt}
 use Rattle.session.specs.Host.{Host, Broken, World, lentOf, Run, run}
 use Rattle.session.specs.State.{St, st, Out, at, begun, Good}
-use Rattle.session.specs.Steps.{tidied}
+use Rattle.session.specs.Sends.{tidied}
 use Rattle.session.proofs.Buf.{good-pending, good-tidied, held-tidied}
 use Rattle.session.proofs.Run.{configOf, Comes}
 use Rattle.session.proofs.Tail.{tidied-tail}
@@ -37,7 +38,7 @@ pub record Site : Type 0 where
 
 module _ (c : Site) where
   abbrev pub lent : List ℕ
-  lent = lentOf (c .call)
+  lent = lentOf (c .host .spare (c .world)) (c .call)
 
   -- the plain reader for the session, and the pieces that it has for the call
   abbrev pub reader : Config
@@ -61,7 +62,7 @@ module _ (c : Site) where
 
   -- the world after i writes in all, where xs of the call's pieces were accepted, bs came to a fault, and pieces were composed at the places is
   abbrev pub wrote : ℕ → List (List ℕ) → List Broken → List ℕ → World
-  wrote i xs bs is = record { left = c .world .left; reads = c .world .reads; writes = i; asks = []; pieces = xs; broken = bs; composed = is; closes = [] }
+  wrote i xs bs is = record { left = c .world .left; calls = c .world .calls + 1; reads = c .world .reads; writes = i; asks = []; pieces = xs; broken = bs; composed = is; closes = []; stopped = none }
 
   -- from there, with f steps left, the call comes to what the plain reader does, if the session's last step was o
   abbrev pub Goes : ℕ → ℕ → List (List ℕ) → List Broken → Out → Type 0
@@ -123,7 +124,7 @@ module _ (c : Site) where
   LetIn = refusal (settingOf (c .state .ses)) (c .call) ≡ none
 
   pub program-is : LetIn → (r : Report) → program reader r (c .call) ≡ onReport reader r (c .call)
-  program-is lets r = ap (λ (o : Option Answer). unless o (onReport reader r (c .call))) lets
+  program-is lets r = ap (λ (o : Option Answer). unlessRefused o (onReport reader r (c .call))) lets
 
   pub rests-is : LetIn → (r : Report) → rests r ≡ pick (compacts r (c .call)) (length (held (c .state))) (c .state .ses .buf .tail)
   rests-is lets r =

@@ -22,7 +22,8 @@ use Rattle.session.specs.Faithful.{windowAt}
 use Rattle.session.specs.Phases.{wants}
 use Rattle.session.specs.Reports.{readIn}
 use Rattle.session.specs.State.{St, st, Out, out, answering, beside, half, Good}
-use Rattle.session.specs.Steps.{reading, asked, over, onHop, turned, followed, turnOf, hopped, pumped, readOn, tidied}
+use Rattle.session.specs.Steps.{reading, asked, over, onHop, turned, followed, turnOf, hopped, pumped, readOn}
+use Rattle.session.specs.Sends.{tidied}
 use Rattle.session.proofs.Buf.{good-tidied, held-tidied, sound-of}
 use Rattle.session.proofs.Turns.{held, Frame, Reached, Nearer, Waits, wanted, count, fine, good-turned, came, good-came}
 

@@ -31,7 +31,8 @@ use Rattle.session.specs.Faithful.{failText, keeping}
 use Rattle.session.specs.Phases.{wants, proceed, headed, drained, turnAt}
 use Rattle.session.specs.Reports.{readIn}
 use Rattle.session.specs.State.{St, st, Out, out, answering, beside, half, Good}
-use Rattle.session.specs.Steps.{reading, asked, kept, over, onHop, turned, followed, turnOf, hopped, pumped, readOn, tidied}
+use Rattle.session.specs.Steps.{reading, asked, kept, over, onHop, turned, followed, turnOf, hopped, pumped, readOn}
+use Rattle.session.specs.Sends.{tidied}
 use Rattle.session.proofs.Buf.{id-in, arg-in, good-tidied, held-tidied, sound-of, view, held-dropped, held-came}
 use Rattle.session.proofs.Turns.{held, Frame, Reached, Nearer, Waits, wanted, count, fine, good-turned, came, good-came}
 

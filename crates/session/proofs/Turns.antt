@@ -14,9 +14,9 @@ use Rattle.protocol.specs.Answers as P
 use Rattle.protocol.specs.Bytes.{pick, same, over as laid}
 use Rattle.protocol.specs.Calls as C
 use Rattle.protocol.specs.Ids.{Id, published, letters, STAT, STA2, DATA, DONE, OKAY, FAIL, DENT, DNT2}
-use Rattle.protocol.specs.Reader.{Prog, answer, need, skip, Result, ended, short, plain, drain, Way, among, nextOn, taking, statLength, stat2Answer, statAnswer, statWays, entryLength, nameLength, entryAnswer, entryWays, chunkWays, okayWays}
+use Rattle.protocol.specs.Reader.{Prog, answer, need, skip, Result, ended, short, plain, drain, Way, amongWays, nextOn, taking, statLength, stat2Answer, statAnswer, statWays, entryLength, nameLength, entryAnswer, entryWays, chunkWays, okayWays}
 use Rattle.protocol.specs.Records.{idAt, argAt, headerSize, Dent, Stat2, Dent2}
-use Rattle.reader.proofs.Needs.{plain-full, plain-short, plain-go-held, need-cong, drain-none, drain-some, drain-fuel}
+use Rattle.protocol_readers.proofs.Needs.{plain-full, plain-short, plain-go-held, need-cong, drain-none, drain-some, drain-fuel}
 use Rattle.features.specs.declared.Features.{Features}
 use Rattle.format_record.specs.Told.{dentOf, stat2Of, dent2Of, toldStat, toldStat2}
 use Rattle.recv_buf.specs.RecvBuf.{cursor, heldCount, heldBytes}
@@ -42,7 +42,8 @@ use Rattle.session.specs.Reports.{readIn, readAt}
 use Rattle.session.specs.Shown.{partOf, paper}
 use Rattle.session.specs.State as S
 use Rattle.session.specs.State.{St, st, Out, out, half, beside, answering, Good}
-use Rattle.session.specs.Steps.{reading, asked, kept, over, onHop, turned, followed, turnOf, hopped, pumped, readOn, tidied}
+use Rattle.session.specs.Steps.{reading, asked, kept, over, onHop, turned, followed, turnOf, hopped, pumped, readOn}
+use Rattle.session.specs.Sends.{tidied}
 use Rattle.session.proofs.Buf.{id-in, arg-in, stat-in, dent-in, stat2-in, dent2-in, four-bytes, drop-take, kept-first, kept-length, good-at, good-pending, good-tidied, held-tidied, sound-of, view, held-dropped, came-length, held-came}
 
 abbrev pub held : St → List ℕ
@@ -181,7 +182,7 @@ module _ (c : ℕ) (rx msg : List ℕ) (i h : ℕ) where
     unfolding plain paper wants
     strange-fine = stops (omega arith) (λ u. ap (λ (y : List ℕ). ended (P.unexpected y) u) (four-bytes (idAt x) four))
 
-    proceed-fine : (w : Want) → Fine (Header w) (among published (waysOf w) x (otherOf w (idAt x))) (proceed w (idAt x) (argAt x))
+    proceed-fine : (w : Want) → Fine (Header w) (amongWays published (waysOf w) x (otherOf w (idAt x))) (proceed w (idAt x) (argAt x))
     unfolding plain paper cont wants rank kept
     proceed-fine (W.Stat V1) = fine-id STAT (goes (omega arith) (λ u. refl)) strange-fine
     proceed-fine (W.Stat V2) = fine-id STA2 (goes (omega arith) (λ u. refl)) strange-fine

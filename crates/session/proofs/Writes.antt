@@ -16,11 +16,12 @@ use Rattle.protocol.specs.Calls.{cutBy}
 use Rattle.protocol.specs.Ids.{published}
 use Rattle.protocol.specs.Messages as M
 use Rattle.protocol.specs.Messages.{header, messageOf, bytesOfRequest, apart, pieces, dataMost}
+use Rattle.protocol.proofs.Bodies.{pick-cases}
 use Rattle.protocol.proofs.Bytes.{over-length, put-in}
-use Rattle.piece.specs.Pieces.{partsOf, pieceList, pieceOf, shown}
-use Rattle.piece.proofs.Laws.{pieces-shown}
-use Rattle.piece.specs.declared.Piece.{Piece}
-use Rattle.piece.specs.declared.Piece.the-variants.{End}
+use Rattle.request_piece.specs.Pieces.{partsOf, pieceList, pieceOf, shown}
+use Rattle.request_piece.proofs.Laws.{pieces-shown}
+use Rattle.request_piece.specs.declared.Piece.{Piece}
+use Rattle.request_piece.specs.declared.Piece.the-variants.{End}
 use Rattle.recv_buf.specs.RecvBuf.{heldBytes}
 use Rattle.recv_buf.specs.declared.RecvBuf.{RecvBuf}
 use Rattle.recv_buf.proofs.Laws.{held-length, over-there, window-keeps, compacted-head}
@@ -31,7 +32,7 @@ use Rattle.session.specs.declared.Pending.{Pending}
 use Rattle.session.specs.declared.Pending.the-variants.{Writing}
 use Rattle.session.specs.declared.Reply.the-variants as R
 use Rattle.session.specs.State.{St, st, out, half, stepped, at, Good}
-use Rattle.session.specs.Steps.{tidied, carried, sendPiece, messageOut, resumed, isEnd, wroteOn}
+use Rattle.session.specs.Sends.{tidied, carried, sendPiece, messageOut, resumed, isEnd, wroteOn}
 use Rattle.session.proofs.Buf.{good-at, sound-of, good-tidied, held-tidied}
 use Rattle.session.proofs.Turns.{held}
 
@@ -87,6 +88,11 @@ pieces-sent (Q.Snd2 m f) n = (refl, parts-sent (eqb n 0) (partsOf (Q.Snd2 m f)) 
 pieces-sent Q.Data n = (refl, parts-sent (eqb n 0) (partsOf Q.Data) (refl, tt))
 pieces-sent (Q.Done t) n = (refl, parts-sent (eqb n 0) [] tt)
 pieces-sent Q.Quit n = (refl, parts-sent (eqb n 0) [] tt)
+
+-- nothing follows the header of a message that has no parts
+pub rest-none : (q : Request) (n : ℕ) → partsOf q ≡ [] → drop 1 (pieceList q n) ≡ []
+unfolding pieceList
+rest-none q n e = rw e (pick-cases (λ (ps : List Piece). ps ≡ []) (eqb n 0) (λ _. refl) (λ _. refl))
 
 -- the k-th piece, where the rest of the list from there on is known, and the rest behind that
 pub piece-at : (q : Request) (n k : ℕ) (r : List Piece) → drop k (pieceList q n) ≡ r → pieceOf q n k ≡ getD r 0 End

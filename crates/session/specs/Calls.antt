@@ -8,7 +8,7 @@ use lib.Dec.{eqb, ltb}
 use lib.ListN.{length}
 use Rattle.protocol.specs.Answers as P
 use Rattle.protocol.specs.Bytes.{pick}
-use Rattle.protocol.specs.Calls.{Setting, requestRefusal}
+use Rattle.protocol.specs.Refusal.{Setting, requestRefusal}
 use Rattle.protocol.specs.Ids.{published}
 use Rattle.features.specs.Meaning.{listed}
 use Rattle.features.specs.declared.Features.{Features}
@@ -26,7 +26,8 @@ use Rattle.session.specs.declared.Stepped.{Stepped}
 use Rattle.session.specs.declared.Version.{Version}
 use Rattle.session.specs.declared.Want.the-variants as W
 use Rattle.session.specs.State.{St, st, Out, out, beside, stepped, begun, refusing}
-use Rattle.session.specs.Steps.{readOn, tidied, carried, sent}
+use Rattle.session.specs.Steps.{readOn}
+use Rattle.session.specs.Sends.{tidied, carried, sent}
 
 -- ---- opening
 
@@ -66,8 +67,8 @@ unfoldable pub callRefusal : Session → ℕ → ℕ → ℕ
 callRefusal s x m = pick (misfit s x m) 3 (pick (s .ended) 6 (pick (isIdle (s .pending)) 0 4))
 
 -- the refusal k, or the step
-abbrev pub unless : ℕ → St → Out → Out
-unless k s o = pick (ltb 0 k) (out (refusing (s .ses) (A.Refused k)) (s .rx) (s .msg)) o
+abbrev pub refusedOr : ℕ → St → Out → Out
+refusedOr k s o = pick (ltb 0 k) (out (refusing (s .ses) (A.Refused k)) (s .rx) (s .msg)) o
 
 abbrev pub refusalOf : St → ℕ
 refusalOf s = callRefusal (s .ses) (length (s .rx)) (length (s .msg))
@@ -102,14 +103,14 @@ orRefuse (some a) s o = out (refusing (s .ses) (answerOf a)) (s .rx) (s .msg)
 -- stat, list, recv, send, data, send_done, quit: the first message
 unfoldable pub startCall : St → Request → List ℕ → Out
 startCall s q lent =
-    unless (refusalOf s) s
+    refusedOr (refusalOf s) s
     (orRefuse (requestRefusal (settingOf (s .ses)) (meant q lent)) s
     (beside (sent (begun (s .ses) (length lent)) (s .rx) q 0 (carried q 0 lent)) (s .msg)))
 
 -- a listing step; n bytes are lent beside it
 unfoldable pub entryCall : St → Version → ℕ → Out
-entryCall s v n = unless (refusalOf s) s (readOn (st (begun (s .ses) n) (s .rx) (s .msg)) (Header (W.Entry v)) false)
+entryCall s v n = refusedOr (refusalOf s) s (readOn (st (begun (s .ses) n) (s .rx) (s .msg)) (Header (W.Entry v)) false)
 
 -- "recv_next compacts first"
 unfoldable pub chunkCall : St → ℕ → Out
-chunkCall s n = unless (refusalOf s) s (readOn (tidied (st (begun (s .ses) n) (s .rx) (s .msg))) (Header W.Chunk) false)
+chunkCall s n = refusedOr (refusalOf s) s (readOn (tidied (st (begun (s .ses) n) (s .rx) (s .msg))) (Header W.Chunk) false)

@@ -15,7 +15,7 @@ use Rattle.protocol.specs.Messages as M
 use Rattle.features.specs.declared.Features.{Features}
 use Rattle.format_flags.specs.declared.FileMode.{FileMode}
 use Rattle.format_flags.specs.declared.SyncFlags.{SyncFlags}
-use Rattle.piece.specs.Pieces.{byValue}
+use Rattle.request_piece.specs.Pieces.{byValue}
 use Rattle.recv_buf.specs.RecvBuf.{heldBytes}
 use Rattle.request.specs.declared.Request.{Request}
 use Rattle.request.specs.declared.Request.the-variants as Q
@@ -70,18 +70,18 @@ showOf rx msg R.Close = close
 abbrev pub stepOf : Out → Step Session
 stepOf o = record { x = o .st .ses; rx = o .st .rx; msg = o .st .msg; show = showOf (o .st .rx) (o .st .msg) (o .reply) }
 
-abbrev pub begin : St → Call → Out
-begin s (call q) = startCall s (requestOf q) (lentOf (call q))
-begin s (nextEntry v) = entryCall s (versionOf v) 0
-begin s nextChunk = chunkCall s 0
+abbrev pub begin : St → Call → (lent : List ℕ) → Out
+begin s (call q) lent = startCall s (requestOf q) lent
+begin s (nextEntry v) lent = entryCall s (versionOf v) (length lent)
+begin s nextChunk lent = chunkCall s (length lent)
 
 abbrev pub core : Engine Session
 core =
     record {
-      start = λ s rx msg q. stepOf (begin (st s rx msg) q);
-      onRead = λ s rx msg lent k. stepOf (reportRead (st s rx msg) (length lent) k);
-      onWrote = λ s rx msg lent. stepOf (reportWrote (st s rx msg) lent);
-      onFault = λ s rx msg lent e. stepOf (reportFault (st s rx msg) (length lent) (faultOf e));
+      start = λ s rx msg q z. stepOf (begin (st s rx msg) q (lentOf z q));
+      onRead = λ s rx msg lent k z. stepOf (reportRead (st s rx msg) (length lent) k);
+      onWrote = λ s rx msg lent z. stepOf (reportWrote (st s rx msg) lent);
+      onFault = λ s rx msg lent e z. stepOf (reportFault (st s rx msg) (length lent) (faultOf e));
       holds = λ s rx. heldBytes rx (s .buf);
       tail = λ s. s .buf .tail;
     }
@@ -109,4 +109,5 @@ coreSystem =
         x = pick (eqb (openRefusal (length rx) (length msg)) 0) (fresh (length rx) (length msg) (featuresFrom (featuresOf banner))) x;
       };
       place = λ x. Unit {0};
+      lends = λ z. Unit {0};
     }

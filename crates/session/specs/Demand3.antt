@@ -3,6 +3,7 @@
 use Prim.Native.Nat.{ℕ, _+_, _≤_, _<_, _^_}
 use mathlib.Core.Bool.{Bool, true, false}
 use mathlib.Core.List.{List, [], _∷_, _++_}
+use mathlib.Core.Option.{Option, none, some}
 use mathlib.Core.Path.{_≡_}
 use lib.ListN.{length, getD}
 use Rattle.protocol.specs.Answers as A
@@ -12,27 +13,32 @@ use Rattle.protocol.specs.Calls.{Call, call, nextEntry, nextChunk}
 use Rattle.protocol.specs.Features.{featuresOf}
 use Rattle.protocol.specs.Ids.{published}
 use Rattle.protocol.specs.Messages.{ask, rcv2, send, snd2, chunk, done, quit, joined}
-use Rattle.protocol.specs.Reader.{Config, Report, accepted, broke, writes, after, plainCall, plainAnswers, plainWrites, isQuit}
+use Rattle.protocol.specs.Reader.{Config, Report, accepted, broke, writes, configAfter, plainCall, plainAnswers, plainWrites, isQuit}
 use Rattle.protocol.specs.Records.{argAt}
-use Rattle.reader.specs.Wider.{Unstopped, Like}
+use Rattle.protocol_readers.specs.Wider.{Unstopped, Like}
 use Rattle.session.specs.Faithful.{AllAtNeeds, closesFor}
-use Rattle.session.specs.Host.{Engine, Host, Entry, atStart, logOf}
+use Rattle.session.specs.Host.{Spare, Engine, World, Host, Entry, atStart, logOf}
 
 -- an engine, and the opening of a session on it: an answer's number, 0 for done, and the session
 pub record Opened (X : Type 0) : Type 0 where
   pub number : ℕ
   pub x : X
 
--- `place`: what may stand where the session is put
+-- `place`: what may stand where the session is put; `lends`: what a step may be lent besides
 pub record System (X : Type 0) : Type 1 where
   pub engine : Engine X
   pub opened : X → (banner rx msg : List ℕ) → Opened X
   pub place : X → Type 0
+  pub lends : Spare → Type 0
 
 -- an error's code has 32 bits
 abbrev pub Coded : End → Type 0
 Coded closed = Unit {0}
 Coded (error c) = c < 0x1_0000_0000
+
+abbrev pub CodedFault : Option End → Type 0
+CodedFault none = Unit {0}
+CodedFault (some e) = Coded e
 
 abbrev pub CodedReport : Report → Type 0
 CodedReport accepted = Unit {0}
@@ -55,7 +61,8 @@ AllWide [] = Unit {0}
 AllWide (q ∷ qs) = Wide q × AllWide qs
 
 -- One side: what stood in the session's place; both buffers, holding any bytes, on lengths that opening takes (no slice has 2^63 bytes);
--- a host that accepts every write and makes any counts, leaving any bytes in the rest of each window; the incoming bytes.
+-- a host that accepts every write and makes any counts, leaving any bytes in the rest of each window, and lends at each step what it likes
+-- besides; the incoming bytes, and no fault of a read before their end.
 pub record Side {X : Type 0} (S : System X) (c : ℕ) (close : Report) : Type 0 where
   pub x : X
   pub placed : S .place x
@@ -68,6 +75,8 @@ pub record Side {X : Type 0} (S : System X) (c : ℕ) (close : Report) : Type 0 
   pub wide : length msg < 2 ^ 63
   pub bytes : Bytes incoming
   pub accepts : (i : ℕ) → host .writes i ≡ accepted
+  pub reads : (i : ℕ) → host .fails i ≡ none
+  pub lends : (w : World) → S .lends (host .spare w)
   pub closes : host .close ≡ close
   pub coded : Coded (host .end)
 
@@ -94,13 +103,13 @@ ReadsAt g e [] v es = Unit {0}
 ReadsAt g e (q ∷ qs) v [] = ⊥
 ReadsAt g e (q ∷ qs) v (x ∷ xs) =
     AllAtNeeds g accepted q v (x .pieces) (x .asks)
-    × ((joined (x .pieces) ≡ writes g q) × ((x .unread ≡ plainCall g e accepted q v .unread) × ReadsAt (after g q) e qs (x .unread) xs))
+    × ((joined (x .pieces) ≡ writes g q) × ((x .unread ≡ plainCall g e accepted q v .unread) × ReadsAt (configAfter g q) e qs (x .unread) xs))
 
 -- one close for a quit that is not refused, behind what it writes, and no other
 abbrev pub ClosesAt : Config → List Call → List Entry → Type 0
 ClosesAt g [] es = Unit {0}
 ClosesAt g (q ∷ qs) [] = ⊥
-ClosesAt g (q ∷ qs) (x ∷ xs) = (x .closes ≡ closesFor (isQuit q) (g .setting .ended) (x .pieces)) × ClosesAt (after g q) qs xs
+ClosesAt g (q ∷ qs) (x ∷ xs) = (x .closes ≡ closesFor (isQuit q) (g .setting .ended) (x .pieces)) × ClosesAt (configAfter g q) qs xs
 
 -- the k-th answer of a log
 abbrev pub nth : List Entry → ℕ → Answer

@@ -1,4 +1,4 @@
--- What is claimed of every host, also of one whose writes and close come to faults: each call of the log is the plain reader's.
+-- What is claimed of every host, also of one whose reads, writes and close come to faults: each call of the log is the plain reader's.
 -- Assumes nothing.
 use Prim.Native.Nat.{ℕ, _+_, _-_, _≤_, _<_, min}
 use mathlib.Core.Bool.{Bool, true, false, _&&_}
@@ -9,12 +9,13 @@ use lib.Dec.{leb, ltb}
 use lib.ListN.{length, take, drop}
 use Rattle.protocol.specs.Answers.{Answer, End}
 use Rattle.protocol.specs.Bytes.{pick, same}
-use Rattle.protocol.specs.Calls.{Call, call, nextEntry, nextChunk, messages, refusal}
+use Rattle.protocol.specs.Calls.{Call, call, nextEntry, nextChunk, messages}
+use Rattle.protocol.specs.Refusal.{refusal}
 use Rattle.protocol.specs.Ids.{Dialect, FAIL}
 use Rattle.protocol.specs.Messages.{Request, ask, rcv2, send, snd2, chunk, done, quit, pieces}
-use Rattle.protocol.specs.Reader.{Prog, answer, need, skip, Config, Report, accepted, broke, short, plain, program, after, plainCall, isQuit}
+use Rattle.protocol.specs.Reader.{Prog, answer, need, skip, Config, Report, accepted, broke, short, plain, program, configAfter, Reply, plainCall, isQuit}
 use Rattle.protocol.specs.Records.{idAt, argAt, headerSize}
-use Rattle.session.specs.Host.{Ask, Broken, outcomeOf, Entry}
+use Rattle.session.specs.Host.{Ask, Broken, Stop, outcomeOf, Entry}
 
 -- A read asked at a need of the plain reader, with r reported of the call's writes: of the unread bytes v the reader is given those
 -- that have come, and falls short at need(n), n ≤ c; what it has unread there is what the session holds, fewer than n bytes; the
@@ -30,13 +31,13 @@ pub record AtNeed (g : Config) (r : Report) (q : Call) (v : List ℕ) (ps : List
   pub inside : a .at + a .len ≡ g .capacity
   pub behind : a .before ≡ ps
 
--- of the reads asked so far, the last first: bytes were still to come when the last was asked, so it brought some
+-- of the reads asked so far, the last first: the last brought some bytes
 abbrev pub Brought : List Ask → Type 0
 Brought [] = Unit {0}
-Brought (a ∷ more) = 0 < length (a .rest)
+Brought (a ∷ more) = 0 < a .brought
 
--- Every read asked, the last first: each at a need, and each but the last brought some bytes. A read that comes to the end error is the
--- last of the call.
+-- Every read asked, the last first: each at a need, and each but the last brought some bytes. A read that comes to a fault is the last of
+-- the call.
 abbrev pub AllAtNeeds : Config → Report → Call → List ℕ → List (List ℕ) → List Ask → Type 0
 AllAtNeeds g r q v ps [] = Unit {0}
 AllAtNeeds g r q v ps (a ∷ more) = AtNeed g r q v ps a × (Brought more × AllAtNeeds g r q v ps more)
@@ -147,21 +148,33 @@ keeping text msg = text ++ drop (length text) msg
 
 -- ---- the calls
 
--- a call of the log, on the unread bytes v
+-- A call on the unread bytes v. Where a read came to a fault too early the plain reader is given the bytes that had come, and that fault
+-- for its end error; the others stay unread.
+abbrev pub cameOf : Option Stop → List ℕ → List ℕ
+cameOf none v = v
+cameOf (some s) v = take (length v - length (s .rest)) v
+
+abbrev pub replyOf : Option Stop → Config → End → Report → Call → List ℕ → Reply
+replyOf none g e r q v = plainCall g e r q v
+replyOf (some s) g e r q v =
+    let y = plainCall g (s .fault) r q (cameOf (some s) v) in
+    record { answer = y .answer; unread = y .unread ++ s .rest }
+
+-- a call of the log
 pub record AsReader (g : Config) (e : End) (q : Call) (v : List ℕ) (x : Entry) : Type 0 where
-  pub answer : x .answer ≡ plainCall g e (outcomeOf (x .broken)) q v .answer
-  pub unread : x .unread ≡ plainCall g e (outcomeOf (x .broken)) q v .unread
+  pub answer : x .answer ≡ replyOf (x .stopped) g e (outcomeOf (x .broken)) q v .answer
+  pub unread : x .unread ≡ replyOf (x .stopped) g e (outcomeOf (x .broken)) q v .unread
   pub asks : AllAtNeeds g (outcomeOf (x .broken)) q v (x .pieces) (x .asks)
   pub pieces : Accepted (callPieces g q (length (x .held))) (x .pieces) (x .broken)
   pub composed : Composed q (length (x .held)) (x .composed)
   pub closes : x .closes ≡ closesFor (isQuit q) (g .setting .ended) (x .pieces)
   pub windows : Placed (g .capacity) (restsAt g (outcomeOf (x .broken)) q (length (x .held)) (x .tail)) (x .asks)
   pub ends : x .ends ≡ tailAfter (restsAt g (outcomeOf (x .broken)) q (length (x .held)) (x .tail)) (x .asks)
-  pub kept : x .kept ≡ keeping (textOf g (outcomeOf (x .broken)) q v) (x .msg)
+  pub kept : x .kept ≡ keeping (textOf g (outcomeOf (x .broken)) q (cameOf (x .stopped) v)) (x .msg)
 
 -- an entry for each call, each as the plain reader has it
 abbrev pub Faithful : Config → End → List Call → List ℕ → List Entry → Type 0
 Faithful g e [] v [] = Unit {0}
 Faithful g e [] v (x ∷ xs) = ⊥
 Faithful g e (q ∷ qs) v [] = ⊥
-Faithful g e (q ∷ qs) v (x ∷ xs) = AsReader g e q v x × Faithful (after g q) e qs (x .unread) xs
+Faithful g e (q ∷ qs) v (x ∷ xs) = AsReader g e q v x × Faithful (configAfter g q) e qs (x .unread) xs

@@ -4,6 +4,7 @@
 use Prim.Native.Nat.{ℕ, zero, suc, _+_, _-_, _*_, min, max}
 use mathlib.Core.Bool.{Bool, true, false, _&&_}
 use mathlib.Core.List.{List, [], _∷_, _++_}
+use mathlib.Core.Option.{Option, none, some}
 use lib.Dec.{leb, ltb}
 use lib.ListN.{length, take, drop}
 use Rattle.protocol.specs.Answers.{Answer, End}
@@ -31,24 +32,26 @@ pub record Step (X : Type 0) : Type 0 where
   pub msg : List ℕ
   pub show : Show
 
+-- What a step is lent or passed besides, none of which counts: the slice that the reply goes to, with what stands in it; what is lent by
+-- a call that takes neither path nor data; the two numbers of a call that takes none; the kind of an error, less one; the code of a closed
+-- channel.
+pub record Spare : Type 0 where
+  pub out : List ℕ
+  pub lent : List ℕ
+  pub first : ℕ
+  pub second : ℕ
+  pub kind : ℕ
+  pub code : ℕ
+
 -- A session, seen from outside. It is lent both buffers at each step, and a call's path or data (of a read or a fault only its length
 -- counts). `holds`: the bytes that it has received and not consumed; `tail`: where the free end of the receive buffer begins, behind them.
 pub record Engine (X : Type 0) : Type 0 where
-  pub start : X → List ℕ → List ℕ → Call → Step X
-  pub onRead : X → List ℕ → List ℕ → (lent : List ℕ) → (count : ℕ) → Step X
-  pub onWrote : X → List ℕ → List ℕ → (lent : List ℕ) → Step X
-  pub onFault : X → List ℕ → List ℕ → (lent : List ℕ) → End → Step X
+  pub start : X → List ℕ → List ℕ → Call → Spare → Step X
+  pub onRead : X → List ℕ → List ℕ → (lent : List ℕ) → (count : ℕ) → Spare → Step X
+  pub onWrote : X → List ℕ → List ℕ → (lent : List ℕ) → Spare → Step X
+  pub onFault : X → List ℕ → List ℕ → (lent : List ℕ) → End → Spare → Step X
   pub holds : X → List ℕ → List ℕ
   pub tail : X → ℕ
-
--- The host's choices: the count of its i-th read; the bytes that this read leaves in the rest of its window; what it reports of its
--- i-th write; of the close; the error that follows the incoming bytes and persists.
-pub record Host : Type 0 where
-  pub count : ℕ → ℕ
-  pub junk : ℕ → ℕ → ℕ
-  pub writes : ℕ → Report
-  pub close : Report
-  pub end : End
 
 -- a read that was asked: the bytes still to come, those held, the window, the pieces of this call written before; how many bytes it brought
 pub record Ask : Type 0 where
@@ -65,11 +68,17 @@ pub record Broken : Type 0 where
   pub fault : End
   pub before : List (List ℕ)
 
--- Bytes still to come; reads and writes so far. Of this call: the reads asked, the last first; the pieces accepted, in order; the writes
+-- a read that came to a fault while bytes were still to come: the fault, and those bytes
+pub record Stop : Type 0 where
+  pub fault : End
+  pub rest : List ℕ
+
+-- Bytes still to come; calls, reads and writes so far. Of this call: the reads asked, the last first; the pieces accepted, in order; the writes
 -- that came to a fault, the last first; for each piece offered from the receive buffer, where it begins there; for each close asked, the
--- pieces accepted before it.
+-- pieces accepted before it; the read that came to a fault too early.
 pub record World : Type 0 where
   pub left : List ℕ
+  pub calls : ℕ
   pub reads : ℕ
   pub writes : ℕ
   pub asks : List Ask
@@ -77,6 +86,19 @@ pub record World : Type 0 where
   pub broken : List Broken
   pub composed : List ℕ
   pub closes : List (List (List ℕ))
+  pub stopped : Option Stop
+
+-- The host's choices: the count of its i-th read; the bytes that this read leaves in the rest of its window; the fault that it comes to, if
+-- it does so while bytes are still to come; what it reports of its i-th write; of the close; the error that follows the incoming bytes and
+-- persists; what it lends besides, by all that has happened. Each step makes another world, so this is chosen anew at each.
+pub record Host : Type 0 where
+  pub count : ℕ → ℕ
+  pub junk : ℕ → ℕ → ℕ
+  pub fails : ℕ → Option End
+  pub writes : ℕ → Report
+  pub close : Report
+  pub end : End
+  pub spare : World → Spare
 
 -- what was reported of a call's writes: that all were accepted, or a fault
 abbrev pub outcomeOf : List Broken → Report
@@ -84,27 +106,31 @@ outcomeOf [] = accepted
 outcomeOf (b ∷ bs) = broke (b .fault)
 
 abbrev pub atStart : List ℕ → World
-atStart incoming = record { left = incoming; reads = 0; writes = 0; asks = []; pieces = []; broken = []; composed = []; closes = [] }
+atStart incoming = record { left = incoming; calls = 0; reads = 0; writes = 0; asks = []; pieces = []; broken = []; composed = []; closes = []; stopped = none }
 
 abbrev pub newCall : World → World
-newCall w = record { left = w .left; reads = w .reads; writes = w .writes; asks = []; pieces = []; broken = []; composed = []; closes = [] }
+newCall w = record { left = w .left; calls = w .calls + 1; reads = w .reads; writes = w .writes; asks = []; pieces = []; broken = []; composed = []; closes = []; stopped = none }
 
 -- n of the bytes to come are read, where the engine asked for a read
 abbrev pub hasRead : ℕ → Ask → World → World
-hasRead n a w = record { left = drop n (w .left); reads = w .reads + 1; writes = w .writes; asks = a ∷ w .asks; pieces = w .pieces; broken = w .broken; composed = w .composed; closes = w .closes }
+hasRead n a w = record { left = drop n (w .left); calls = w .calls; reads = w .reads + 1; writes = w .writes; asks = a ∷ w .asks; pieces = w .pieces; broken = w .broken; composed = w .composed; closes = w .closes; stopped = w .stopped }
 
 abbrev pub hasWritten : List ℕ → World → World
-hasWritten b w = record { left = w .left; reads = w .reads; writes = w .writes + 1; asks = w .asks; pieces = w .pieces ++ b ∷ []; broken = w .broken; composed = w .composed; closes = w .closes }
+hasWritten b w = record { left = w .left; calls = w .calls; reads = w .reads; writes = w .writes + 1; asks = w .asks; pieces = w .pieces ++ b ∷ []; broken = w .broken; composed = w .composed; closes = w .closes; stopped = w .stopped }
 
 abbrev pub hasBroken : List ℕ → End → World → World
-hasBroken b e w = record { left = w .left; reads = w .reads; writes = w .writes + 1; asks = w .asks; pieces = w .pieces; broken = record { piece = b; fault = e; before = w .pieces } ∷ w .broken; composed = w .composed; closes = w .closes }
+hasBroken b e w = record { left = w .left; calls = w .calls; reads = w .reads; writes = w .writes + 1; asks = w .asks; pieces = w .pieces; broken = record { piece = b; fault = e; before = w .pieces } ∷ w .broken; composed = w .composed; closes = w .closes; stopped = w .stopped }
 
 -- a piece is offered that begins at i in the receive buffer
 abbrev pub composing : ℕ → World → World
-composing i w = record { left = w .left; reads = w .reads; writes = w .writes; asks = w .asks; pieces = w .pieces; broken = w .broken; composed = i ∷ w .composed; closes = w .closes }
+composing i w = record { left = w .left; calls = w .calls; reads = w .reads; writes = w .writes; asks = w .asks; pieces = w .pieces; broken = w .broken; composed = i ∷ w .composed; closes = w .closes; stopped = w .stopped }
 
 abbrev pub hasClosed : World → World
-hasClosed w = record { left = w .left; reads = w .reads; writes = w .writes; asks = w .asks; pieces = w .pieces; broken = w .broken; composed = w .composed; closes = w .pieces ∷ w .closes }
+hasClosed w = record { left = w .left; calls = w .calls; reads = w .reads; writes = w .writes; asks = w .asks; pieces = w .pieces; broken = w .broken; composed = w .composed; closes = w .pieces ∷ w .closes; stopped = w .stopped }
+
+-- a read comes to the fault e, and these bytes are still to come
+abbrev pub hasStopped : End → World → World
+hasStopped e w = record { left = w .left; calls = w .calls; reads = w .reads; writes = w .writes; asks = w .asks; pieces = w .pieces; broken = w .broken; composed = w .composed; closes = w .closes; stopped = some (record { fault = e; rest = w .left }) }
 
 -- a count from one to the smaller of the window and what is left
 abbrev pub counted : ℕ → ℕ → ℕ → ℕ
@@ -118,17 +144,17 @@ filling f (suc n) = f n ∷ filling f n
 abbrev pub windowed : (ℕ → ℕ) → List ℕ → ℕ → ℕ → List ℕ → List ℕ
 windowed f rx at len v = over rx at (v ++ filling f (len - length v))
 
--- what a call lends
-abbrev pub lentOf : Call → List ℕ
-lentOf (call (ask i p)) = p
-lentOf (call (rcv2 p f)) = p
-lentOf (call (send p m)) = p
-lentOf (call (snd2 p m f)) = p
-lentOf (call (chunk x)) = x
-lentOf (call (done t)) = []
-lentOf (call quit) = []
-lentOf (nextEntry v) = []
-lentOf nextChunk = []
+-- what a call lends: its path or its data; any other call, what the host likes
+abbrev pub lentOf : Spare → Call → List ℕ
+lentOf z (call (ask i p)) = p
+lentOf z (call (rcv2 p f)) = p
+lentOf z (call (send p m)) = p
+lentOf z (call (snd2 p m f)) = p
+lentOf z (call (chunk x)) = x
+lentOf z (call (done t)) = z .lent
+lentOf z (call quit) = z .lent
+lentOf z (nextEntry v) = z .lent
+lentOf z nextChunk = z .lent
 
 -- how a call against the host comes out. `unended` is a call that asked more than the host can grant: a window of no bytes, a part
 -- outside its buffer, or more steps than were allowed.
@@ -141,25 +167,28 @@ module _ {X : Type 0} (E : Engine X) (h : Host) (lent : List ℕ) (k : World →
   abbrev pub asking : World → Step X → (at len n : ℕ) → Ask
   asking w s at len n = record { rest = w .left; holds = E .holds (s .x) (s .rx); at = at; len = len; before = w .pieces; brought = n }
 
-  abbrev pub grantRead : World → Step X → (at len : ℕ) → List ℕ → Run X
-  grantRead w s at len [] =
-      k (hasRead 0 (asking w s at len 0) w) (E .onFault (s .x) (windowed (h .junk (w .reads)) (s .rx) at len []) (s .msg) lent (h .end))
-  grantRead w s at len (b ∷ bs) =
+  abbrev pub grantRead : World → Step X → (at len : ℕ) → List ℕ → Option End → Run X
+  grantRead w s at len [] fails =
+      k (hasRead 0 (asking w s at len 0) w) (E .onFault (s .x) (windowed (h .junk (w .reads)) (s .rx) at len []) (s .msg) lent (h .end) (h .spare w))
+  grantRead w s at len (b ∷ bs) (some e) =
+      k (hasStopped e (hasRead 0 (asking w s at len 0) w))
+      (E .onFault (s .x) (windowed (h .junk (w .reads)) (s .rx) at len []) (s .msg) lent e (h .spare w))
+  grantRead w s at len (b ∷ bs) none =
       let n = counted (h .count (w .reads)) len (length (w .left)) in
-      k (hasRead n (asking w s at len n) w) (E .onRead (s .x) (windowed (h .junk (w .reads)) (s .rx) at len (take n (w .left))) (s .msg) lent n)
+      k (hasRead n (asking w s at len n) w) (E .onRead (s .x) (windowed (h .junk (w .reads)) (s .rx) at len (take n (w .left))) (s .msg) lent n (h .spare w))
 
   abbrev pub grantWrite : World → Step X → List ℕ → Report → Run X
-  grantWrite w s b accepted = k (hasWritten b w) (E .onWrote (s .x) (s .rx) (s .msg) lent)
-  grantWrite w s b (broke e) = k (hasBroken b e w) (E .onFault (s .x) (s .rx) (s .msg) lent e)
+  grantWrite w s b accepted = k (hasWritten b w) (E .onWrote (s .x) (s .rx) (s .msg) lent (h .spare w))
+  grantWrite w s b (broke e) = k (hasBroken b e w) (E .onFault (s .x) (s .rx) (s .msg) lent e (h .spare w))
 
   abbrev pub grantClose : World → Step X → Report → Run X
-  grantClose w s accepted = k (hasClosed w) (E .onWrote (s .x) (s .rx) (s .msg) lent)
-  grantClose w s (broke e) = k (hasClosed w) (E .onFault (s .x) (s .rx) (s .msg) lent e)
+  grantClose w s accepted = k (hasClosed w) (E .onWrote (s .x) (s .rx) (s .msg) lent (h .spare w))
+  grantClose w s (broke e) = k (hasClosed w) (E .onFault (s .x) (s .rx) (s .msg) lent e (h .spare w))
 
   abbrev pub granted : World → Step X → Show → Run X
   granted w s (told a) = over-with (s .x) (s .rx) (s .msg) a w
   granted w s (read at len) =
-      pick (ltb 0 len && leb (at + len) (length (s .rx))) (grantRead w s at len (w .left)) unended
+      pick (ltb 0 len && leb (at + len) (length (s .rx))) (grantRead w s at len (w .left) (h .fails (w .reads))) unended
   granted w s (writeRx at len) =
       pick (leb (at + len) (length (s .rx))) (grantWrite (composing at w) s (take len (drop at (s .rx))) (h .writes (w .writes))) unended
   granted w s (writeLent at len) =
@@ -177,7 +206,7 @@ abbrev pub enough : Call → World → ℕ
 enough q w = length (w .left) + (5 * length (messages q) + 5)
 
 abbrev pub runCall : {X : Type 0} → Engine X → Host → Call → World → X → List ℕ → List ℕ → Run X
-runCall E h q w x rx msg = run E h (lentOf q) (enough q w) (newCall w) (E .start x rx msg q)
+runCall E h q w x rx msg = run E h (lentOf (h .spare w) q) (enough q w) (newCall w) (E .start x rx msg q (h .spare w))
 
 -- what is logged of a call
 pub record Entry : Type 0 where
@@ -191,6 +220,7 @@ pub record Entry : Type 0 where
   pub broken : List Broken
   pub composed : List ℕ
   pub closes : List (List (List ℕ))
+  pub stopped : Option Stop
   -- the bytes held and still to come, tail and the message buffer when it was over
   pub unread : List ℕ
   pub ends : ℕ
@@ -198,7 +228,7 @@ pub record Entry : Type 0 where
 
 abbrev pub onRun : {X : Type 0} → Engine X → (held : List ℕ) → (tail : ℕ) → (msg : List ℕ) → (World → X → List ℕ → List ℕ → List Entry) → Run X → List Entry
 onRun E held tail msg k (over-with x rx msg′ a w) =
-    record { held = held; tail = tail; msg = msg; answer = a; asks = w .asks; pieces = w .pieces; broken = w .broken; composed = w .composed; closes = w .closes; unread = E .holds x rx ++ w .left; ends = E .tail x; kept = msg′ } ∷ k w x rx msg′
+    record { held = held; tail = tail; msg = msg; answer = a; asks = w .asks; pieces = w .pieces; broken = w .broken; composed = w .composed; closes = w .closes; stopped = w .stopped; unread = E .holds x rx ++ w .left; ends = E .tail x; kept = msg′ } ∷ k w x rx msg′
 onRun E held tail msg k unended = []
 
 -- a list of calls; the log ends early where a call does not end

@@ -1,6 +1,7 @@
 pub mod State
 pub mod Phases
 pub mod Steps
+pub mod Sends
 pub mod Calls
 pub mod Reports
 pub mod Shown
@@ -9,3 +10,6 @@ pub mod Core
 pub mod Faithful
 pub mod Demand3
 pub mod EveryHost
+pub mod Places
+pub mod Examples
+pub mod Scripted

@@ -20,9 +20,10 @@ use Rattle.session.specs.declared.Phase.the-variants.{Header}
 use Rattle.session.specs.declared.Reply.the-variants.{Told, Read}
 use Rattle.session.specs.declared.Session.{Session}
 use Rattle.session.specs.declared.Want.the-variants as W
-use Rattle.session.specs.Calls.{misfit, isIdle, unless}
+use Rattle.session.specs.Calls.{misfit, isIdle, refusedOr}
 use Rattle.session.specs.State.{St, st, Out, out, stepped, at, shut, refusing}
-use Rattle.session.specs.Steps.{readOn, told, closingOut, wroteOn}
+use Rattle.session.specs.Steps.{readOn}
+use Rattle.session.specs.Sends.{told, closingOut, wroteOn}
 
 -- 3, 6, 5; 0: none. n is the length of the path or data.
 unfoldable pub reportRefusal : Session → ℕ → ℕ → ℕ → ℕ
@@ -61,7 +62,7 @@ readAt (Writing q from piece) s k = refusedOut s 5
 readAt (Closing failed code) s k = refusedOut s 5
 
 unfoldable pub reportRead : St → ℕ → ℕ → Out
-reportRead s n k = unless (refusalAt s n) s (readAt (s .ses .pending) s k)
+reportRead s n k = refusedOr (refusalAt s n) s (readAt (s .ses .pending) s k)
 
 -- ---- a write or the close was accepted
 
@@ -76,7 +77,7 @@ wroteAt (Writing q from piece) s lent = wroteOn s q from piece lent
 wroteAt (Closing failed code) s lent = closedOut s failed code A.Done
 
 unfoldable pub reportWrote : St → List ℕ → Out
-reportWrote s lent = unless (refusalAt s (length lent)) s (wroteAt (s .ses .pending) s lent)
+reportWrote s lent = refusedOr (refusalAt s (length lent)) s (wroteAt (s .ses .pending) s lent)
 
 -- ---- a read, a write or the close came to a fault
 
@@ -114,4 +115,4 @@ faultAt (Writing q from piece) s e = writeFault s q e
 faultAt (Closing failed code) s e = closedOut s failed code (faultAnswer e)
 
 unfoldable pub reportFault : St → ℕ → Fault → Out
-reportFault s n e = unless (refusalAt s n) s (faultAt (s .ses .pending) s e)
+reportFault s n e = refusedOr (refusalAt s n) s (faultAt (s .ses .pending) s e)

@@ -7,9 +7,9 @@ use format_record::DentV1;
 use format_record::DentV2;
 use format_record::StatV1;
 use format_record::StatV2;
-use piece::Piece;
 use recv_buf::RecvBuf;
 use request::Request;
+use request_piece::Piece;
 
 pub enum Version {
     V1,

@@ -1,16 +1,15 @@
-//! The answers of a call that did not go through, by document 01's numbers.
+//! The answers of a call that did not go through, by their numbers.
 use crate::feature::Feature;
 use crate::raw::REPLY;
 use crate::reply::word;
 use crate::shown::Shown;
-use std::borrow::Cow;
 use std::{fmt, io};
 
-/// Why a call did not go through. [`Error::number`] is document 01's number, and the text begins with it.
+/// Why a call did not go through. The text begins with [`Error::number`]; [`MEANINGS`](crate::MEANINGS)
+/// has them all, docs/ANSWERS.md what to do about each.
 ///
 /// 1 to 11 are the caller's: session and buffers are as before. 12 and 13 are the link's, 14 to 17 the panel's.
-/// The text of a FAIL is a part of the message buffer, lent until the session's next call; [`Error::into_owned`]
-/// copies it out.
+/// An error borrows nothing: the text of a FAIL is copied out of the message buffer, so `?` hands it on to any caller.
 ///
 /// ```
 /// use yuglasno::{panel::Panel, Error, Session};
@@ -21,9 +20,8 @@ use std::{fmt, io};
 /// assert_eq!(error.number(), 10);
 /// assert_eq!(error.to_string(), "10: the panel lacks stat_v2 (feature 1)");
 /// ```
-#[derive(Debug)]
 #[non_exhaustive]
-pub enum Error<'a> {
+pub enum Error {
     /// 1: the receive buffer is under 8 bytes.
     SmallBuffer,
     /// 2: the message buffer is shorter than the receive buffer.
@@ -56,7 +54,7 @@ pub enum Error<'a> {
         error: Option<io::Error>,
     },
     /// 14: the panel's FAIL, with its text.
-    Fail(Cow<'a, [u8]>),
+    Fail(Box<[u8]>),
     /// 15: a reply under an id that does not belong there, with its four bytes.
     Unexpected([u8; 4]),
     /// 16: the panel's errno in a v2 stat.
@@ -67,8 +65,8 @@ pub enum Error<'a> {
     Other(u32),
 }
 
-impl<'a> Error<'a> {
-    /// Document 01's number.
+impl Error {
+    /// The answer's number.
     pub fn number(&self) -> u32 {
         match self {
             Self::SmallBuffer => 1,
@@ -92,32 +90,8 @@ impl<'a> Error<'a> {
         }
     }
 
-    /// The same error, with a FAIL's text copied out of the session's buffer.
-    pub fn into_owned(self) -> Error<'static> {
-        match self {
-            Self::Fail(text) => Error::Fail(Cow::Owned(text.into_owned())),
-            Self::SmallBuffer => Error::SmallBuffer,
-            Self::ShortMessageBuffer => Error::ShortMessageBuffer,
-            Self::OtherLength => Error::OtherLength,
-            Self::Pending => Error::Pending,
-            Self::NotAwaited => Error::NotAwaited,
-            Self::Ended => Error::Ended,
-            Self::LongPath => Error::LongPath,
-            Self::NulInPath => Error::NulInPath,
-            Self::Flags => Error::Flags,
-            Self::Missing(feature) => Error::Missing(feature),
-            Self::Count => Error::Count,
-            Self::Closed => Error::Closed,
-            Self::Io { code, error } => Error::Io { code, error },
-            Self::Unexpected(id) => Error::Unexpected(id),
-            Self::Errno(errno) => Error::Errno(errno),
-            Self::TooLarge => Error::TooLarge,
-            Self::Other(number) => Error::Other(number),
-        }
-    }
-
     /// The error of a number alone.
-    pub(crate) fn plain(number: u32) -> Error<'static> {
+    pub(crate) fn plain(number: u32) -> Error {
         match number {
             1 => Error::SmallBuffer,
             2 => Error::ShortMessageBuffer,
@@ -136,11 +110,11 @@ impl<'a> Error<'a> {
     }
 
     /// The error of a reply. `text` is the reply's part of the message buffer, `fault` what the link came to.
-    pub(crate) fn told(number: u32, out: &[u8; REPLY], text: &'a [u8], fault: Option<io::Error>) -> Self {
+    pub(crate) fn told(number: u32, out: &[u8; REPLY], text: &[u8], fault: Option<io::Error>) -> Self {
         match number {
             10 => Feature::numbered(word(out, 3)).map_or(Self::Other(10), Self::Missing),
             13 => Self::Io { code: word(out, 3) as u32, error: fault },
-            14 => Self::Fail(Cow::Borrowed(text)),
+            14 => Self::Fail(text.into()),
             15 => Self::Unexpected((word(out, 3) as u32).to_le_bytes()),
             16 => Self::Errno(word(out, 3) as u32),
             _ => Self::plain(number),
@@ -148,7 +122,7 @@ impl<'a> Error<'a> {
     }
 }
 
-impl fmt::Display for Error<'_> {
+impl fmt::Display for Error {
     fn fmt(&self, f: &mut fmt::Formatter<'_>) -> fmt::Result {
         write!(f, "{}: ", self.number())?;
         match self {
@@ -175,7 +149,14 @@ impl fmt::Display for Error<'_> {
     }
 }
 
-impl std::error::Error for Error<'_> {
+/// As it is displayed: this is what a `main` that returns it prints.
+impl fmt::Debug for Error {
+    fn fmt(&self, f: &mut fmt::Formatter<'_>) -> fmt::Result {
+        fmt::Display::fmt(self, f)
+    }
+}
+
+impl std::error::Error for Error {
     fn source(&self) -> Option<&(dyn std::error::Error + 'static)> {
         match self {
             Self::Io { error: Some(error), .. } => Some(error),

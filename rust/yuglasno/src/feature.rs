@@ -1,4 +1,4 @@
-//! The features that the session asks of a banner, and document 01's numbers for them.
+//! The features that the session asks of a banner, with their numbers.
 use std::fmt;
 
 /// A feature of the panel. Answer 10 names the one that is missing.
@@ -25,7 +25,7 @@ impl Feature {
     pub const ALL: [Self; 7] =
         [Self::StatV2, Self::LsV2, Self::SendrecvV2, Self::Brotli, Self::Lz4, Self::Zstd, Self::DryRunSend];
 
-    /// Document 01's number of it.
+    /// Its number, from 1 to 7: answer 10 carries it.
     pub fn number(self) -> u32 {
         self as u32
     }

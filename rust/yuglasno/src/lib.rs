@@ -17,10 +17,11 @@
 //! session.quit(&mut link).unwrap();
 //! ```
 //!
-//! What is answered is document 01's, by its numbers: see [`Error`]. A chunk, a name and the text of a FAIL are parts of
-//! the session's two buffers, lent until its next call; the session allocates nothing.
+//! What a call comes to has a number: see [`Error`]. A chunk and a name are parts of the receive buffer, lent until the
+//! session's next call; the session allocates nothing but the copy of a FAIL's text that its error keeps.
 //!
-//! Modules: [`raw`] has the static library's functions, and is the only one with `unsafe`; [`panel`] is a test peer.
+//! Modules: [`adb`] opens the sync service of an ADB server's device; [`raw`] has the static library's functions, and is the only
+//! one with `unsafe`; [`panel`] is a test peer.
 #![deny(unsafe_code)]
 #![deny(missing_docs)]
 
@@ -29,6 +30,7 @@ mod call;
 mod error;
 mod feature;
 mod link;
+mod meanings;
 mod numbers;
 mod reply;
 mod runs;
@@ -36,6 +38,8 @@ mod session;
 mod shown;
 mod transfers;
 
+#[cfg(unix)]
+pub mod adb;
 #[cfg(unix)]
 pub mod panel;
 #[allow(unsafe_code)]
@@ -47,10 +51,16 @@ pub use call::{Call, Report};
 pub use error::Error;
 pub use feature::Feature;
 pub use link::{code_of, Fault, Link, Pair};
+pub use meanings::{meaning, MEANINGS};
 pub use numbers::{FileMode, SyncFlags};
 pub use session::{Session, Step};
 pub use shown::Shown;
 pub use transfers::Failure;
+
+/// README's program, compiled and run as a test.
+#[cfg(doctest)]
+#[doc = include_str!("../../../README.md")]
+struct Readme;
 
 /// The most bytes in one DATA message.
 pub const DATA_MOST: usize = 65_536;

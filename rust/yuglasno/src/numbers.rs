@@ -5,7 +5,10 @@ use std::ops::BitOr;
 /// A file's type and permissions, such as `0o100644`. It is displayed in octal.
 ///
 /// ```
-/// assert_eq!(yuglasno::FileMode(33188).to_string(), "100644");
+/// use yuglasno::FileMode;
+/// assert_eq!(FileMode(33188).to_string(), "100644");
+/// assert!(FileMode(0o100644).is_file() && !FileMode(0o120777).is_file() && !FileMode(0).is_file());
+/// assert!(FileMode(0o040755).is_folder() && !FileMode(0o060660).is_folder());
 /// ```
 #[derive(Clone, Copy, PartialEq, Eq, Default)]
 pub struct FileMode(pub u32);
@@ -13,7 +16,17 @@ pub struct FileMode(pub u32);
 impl FileMode {
     /// Whether this is a folder's mode.
     pub fn is_folder(self) -> bool {
-        self.0 & 0o170_000 == 0o040_000
+        self.kind() == 0o040_000
+    }
+
+    /// Whether this is a regular file's mode: no folder, symbolic link, device, pipe or socket, and not the 0 of what
+    /// isn't there.
+    pub fn is_file(self) -> bool {
+        self.kind() == 0o100_000
+    }
+
+    fn kind(self) -> u32 {
+        self.0 & 0o170_000
     }
 }
 

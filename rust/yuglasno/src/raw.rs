@@ -39,7 +39,7 @@ pub fn wanted(rec: &[u8; RECORD]) -> usize {
     number(9).saturating_sub(number(3)) as usize
 }
 
-/// Opens a session in `rec`, for buffers of these lengths: 0, or document 01's 1, 2, or 3 for a record of another length.
+/// Opens a session in `rec`, for buffers of these lengths: 0, or the answer 1 or 2, or 3 for a record of another length.
 pub fn open(rec: &mut [u8], banner: &[u8], rx: usize, msg: usize) -> u32 {
     unsafe { linked::yuglasno_open(rec.as_mut_ptr(), rec.len(), banner.as_ptr(), banner.len(), rx, msg) }
 }

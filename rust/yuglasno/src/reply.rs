@@ -5,7 +5,7 @@ use std::ops::Range;
 /// What the library asks or answers.
 #[derive(Clone, Copy, Debug)]
 pub(crate) enum Reply {
-    /// The call or report is answered, by document 01's number.
+    /// The call or report is answered, by its number.
     Told(u32),
     Ask(Ask),
 }

@@ -8,7 +8,7 @@ use crate::reply::{Ask, Part, Reply};
 use crate::session::Session;
 use std::io;
 
-/// A call's end: document 01's number, and the link's fault if one was met.
+/// A call's end: the answer's number, and the link's fault if one was met.
 pub(crate) struct Ended {
     pub(crate) number: u32,
     fault: Option<io::Error>,
@@ -25,13 +25,13 @@ impl<R: AsMut<[u8]>, M: AsMut<[u8]>> Session<R, M> {
     /// let answer = session.call(&mut link, &Call::Stat(b"/jobs/empty.job")).unwrap();
     /// assert!(matches!(answer, Answer::Stat(stat) if stat.size == 0));
     /// ```
-    pub fn call(&mut self, link: &mut (impl Link + ?Sized), call: &Call<'_>) -> Result<Answer<'_>, Error<'_>> {
+    pub fn call(&mut self, link: &mut (impl Link + ?Sized), call: &Call<'_>) -> Result<Answer<'_>, Error> {
         let ended = self.run(link, call);
         self.outcome(ended)
     }
 
     /// Goes on with a call that is pending: after an 11, or one that was started by steps. 5 where none is.
-    pub fn resume(&mut self, link: &mut (impl Link + ?Sized), call: &Call<'_>) -> Result<Answer<'_>, Error<'_>> {
+    pub fn resume(&mut self, link: &mut (impl Link + ?Sized), call: &Call<'_>) -> Result<Answer<'_>, Error> {
         let ended = match self.waits_for() {
             Some(ask) => self.drive(link, call, Reply::Ask(ask)),
             None => Ended { number: 5, fault: None },
@@ -40,7 +40,7 @@ impl<R: AsMut<[u8]>, M: AsMut<[u8]>> Session<R, M> {
     }
 
     /// A file's mode, size and time. One that is not there is all zeros.
-    pub fn stat(&mut self, link: &mut (impl Link + ?Sized), path: impl AsRef<[u8]>) -> Result<Stat, Error<'_>> {
+    pub fn stat(&mut self, link: &mut (impl Link + ?Sized), path: impl AsRef<[u8]>) -> Result<Stat, Error> {
         match self.call(link, &Call::Stat(path.as_ref()))? {
             Answer::Stat(stat) => Ok(stat),
             other => unreachable!("a stat was answered {other:?}"),
@@ -48,7 +48,7 @@ impl<R: AsMut<[u8]>, M: AsMut<[u8]>> Session<R, M> {
     }
 
     /// All that the panel knows of a file; 16 with the panel's errno where it knows nothing.
-    pub fn stat_v2(&mut self, link: &mut (impl Link + ?Sized), path: impl AsRef<[u8]>) -> Result<StatV2, Error<'_>> {
+    pub fn stat_v2(&mut self, link: &mut (impl Link + ?Sized), path: impl AsRef<[u8]>) -> Result<StatV2, Error> {
         match self.call(link, &Call::StatV2(path.as_ref()))? {
             Answer::StatV2(stat) => Ok(stat),
             other => unreachable!("a stat was answered {other:?}"),
@@ -56,17 +56,17 @@ impl<R: AsMut<[u8]>, M: AsMut<[u8]>> Session<R, M> {
     }
 
     /// Starts a listing.
-    pub fn list(&mut self, link: &mut (impl Link + ?Sized), path: impl AsRef<[u8]>) -> Result<(), Error<'_>> {
+    pub fn list(&mut self, link: &mut (impl Link + ?Sized), path: impl AsRef<[u8]>) -> Result<(), Error> {
         self.done(link, &Call::List(path.as_ref()))
     }
 
     /// Starts a v2 listing.
-    pub fn list_v2(&mut self, link: &mut (impl Link + ?Sized), path: impl AsRef<[u8]>) -> Result<(), Error<'_>> {
+    pub fn list_v2(&mut self, link: &mut (impl Link + ?Sized), path: impl AsRef<[u8]>) -> Result<(), Error> {
         self.done(link, &Call::ListV2(path.as_ref()))
     }
 
     /// The next entry of a listing; `None` at its end.
-    pub fn next_entry(&mut self, link: &mut (impl Link + ?Sized)) -> Result<Option<Entry<'_>>, Error<'_>> {
+    pub fn next_entry(&mut self, link: &mut (impl Link + ?Sized)) -> Result<Option<Entry<'_>>, Error> {
         match self.call(link, &Call::NextEntry)? {
             Answer::Entry(entry) => Ok(Some(entry)),
             _ => Ok(None),
@@ -74,7 +74,7 @@ impl<R: AsMut<[u8]>, M: AsMut<[u8]>> Session<R, M> {
     }
 
     /// The next entry of a v2 listing; `None` at its end.
-    pub fn next_entry_v2(&mut self, link: &mut (impl Link + ?Sized)) -> Result<Option<EntryV2<'_>>, Error<'_>> {
+    pub fn next_entry_v2(&mut self, link: &mut (impl Link + ?Sized)) -> Result<Option<EntryV2<'_>>, Error> {
         match self.call(link, &Call::NextEntryV2)? {
             Answer::EntryV2(entry) => Ok(Some(entry)),
             _ => Ok(None),
@@ -82,7 +82,7 @@ impl<R: AsMut<[u8]>, M: AsMut<[u8]>> Session<R, M> {
     }
 
     /// Starts a pull.
-    pub fn recv(&mut self, link: &mut (impl Link + ?Sized), path: impl AsRef<[u8]>) -> Result<(), Error<'_>> {
+    pub fn recv(&mut self, link: &mut (impl Link + ?Sized), path: impl AsRef<[u8]>) -> Result<(), Error> {
         self.done(link, &Call::Recv(path.as_ref()))
     }
 
@@ -92,12 +92,12 @@ impl<R: AsMut<[u8]>, M: AsMut<[u8]>> Session<R, M> {
         link: &mut (impl Link + ?Sized),
         path: impl AsRef<[u8]>,
         flags: SyncFlags,
-    ) -> Result<(), Error<'_>> {
+    ) -> Result<(), Error> {
         self.done(link, &Call::RecvV2(path.as_ref(), flags))
     }
 
     /// The next chunk of a pull, a part of the receive buffer; `None` at its end.
-    pub fn recv_next(&mut self, link: &mut (impl Link + ?Sized)) -> Result<Option<&[u8]>, Error<'_>> {
+    pub fn recv_next(&mut self, link: &mut (impl Link + ?Sized)) -> Result<Option<&[u8]>, Error> {
         match self.call(link, &Call::RecvNext)? {
             Answer::Chunk(chunk) => Ok(Some(chunk)),
             _ => Ok(None),
@@ -110,7 +110,7 @@ impl<R: AsMut<[u8]>, M: AsMut<[u8]>> Session<R, M> {
         link: &mut (impl Link + ?Sized),
         path: impl AsRef<[u8]>,
         mode: FileMode,
-    ) -> Result<(), Error<'_>> {
+    ) -> Result<(), Error> {
         self.done(link, &Call::Send(path.as_ref(), mode))
     }
 
@@ -121,26 +121,26 @@ impl<R: AsMut<[u8]>, M: AsMut<[u8]>> Session<R, M> {
         path: impl AsRef<[u8]>,
         mode: FileMode,
         flags: SyncFlags,
-    ) -> Result<(), Error<'_>> {
+    ) -> Result<(), Error> {
         self.done(link, &Call::SendV2(path.as_ref(), mode, flags))
     }
 
     /// Data of a push, of any length.
-    pub fn data(&mut self, link: &mut (impl Link + ?Sized), data: &[u8]) -> Result<(), Error<'_>> {
+    pub fn data(&mut self, link: &mut (impl Link + ?Sized), data: &[u8]) -> Result<(), Error> {
         self.done(link, &Call::Data(data))
     }
 
     /// Ends a push with the file's time, and waits for the panel's OKAY.
-    pub fn send_done(&mut self, link: &mut (impl Link + ?Sized), mtime: u32) -> Result<(), Error<'_>> {
+    pub fn send_done(&mut self, link: &mut (impl Link + ?Sized), mtime: u32) -> Result<(), Error> {
         self.done(link, &Call::SendDone(mtime))
     }
 
     /// Ends the session and closes the channel. A channel that the panel has closed already is fine.
-    pub fn quit(&mut self, link: &mut (impl Link + ?Sized)) -> Result<(), Error<'_>> {
+    pub fn quit(&mut self, link: &mut (impl Link + ?Sized)) -> Result<(), Error> {
         self.done(link, &Call::Quit)
     }
 
-    fn done(&mut self, link: &mut (impl Link + ?Sized), call: &Call<'_>) -> Result<(), Error<'_>> {
+    fn done(&mut self, link: &mut (impl Link + ?Sized), call: &Call<'_>) -> Result<(), Error> {
         self.call(link, call).map(|_| ())
     }
 
@@ -150,7 +150,7 @@ impl<R: AsMut<[u8]>, M: AsMut<[u8]>> Session<R, M> {
         self.drive(link, call, reply)
     }
 
-    pub(crate) fn outcome(&mut self, ended: Ended) -> Result<Answer<'_>, Error<'_>> {
+    pub(crate) fn outcome(&mut self, ended: Ended) -> Result<Answer<'_>, Error> {
         self.answered(ended.number, ended.fault)
     }
 
@@ -173,7 +173,12 @@ impl<R: AsMut<[u8]>, M: AsMut<[u8]>> Session<R, M> {
 
     /// Reads until the session has what it wants or the window is full: a report of fewer bytes would only move the window
     /// on. A fault behind some bytes is kept until they are reported.
-    fn gather(&mut self, link: &mut (impl Link + ?Sized), part: Part, behind: &mut Option<Fault>) -> Result<usize, Fault> {
+    fn gather(
+        &mut self,
+        link: &mut (impl Link + ?Sized),
+        part: Part,
+        behind: &mut Option<Fault>,
+    ) -> Result<usize, Fault> {
         let enough = self.wanted();
         let window = self.window(part.range());
         let enough = enough.min(window.len());

@@ -30,7 +30,7 @@ pub enum Step<'a> {
     /// Close the channel: [`Report::Done`].
     Close,
     /// The call is answered.
-    Told(Result<Answer<'a>, Error<'a>>),
+    Told(Result<Answer<'a>, Error>),
 }
 
 impl<R: AsMut<[u8]>, M: AsMut<[u8]>> Session<R, M> {
@@ -43,7 +43,7 @@ impl<R: AsMut<[u8]>, M: AsMut<[u8]>> Session<R, M> {
     /// assert!(Session::open(b"features=stat_v2", &mut borrowed[..], [0; 4096]).is_ok());
     /// assert_eq!(Session::open(b"", [0; 7], [0; 7]).unwrap_err().number(), 1);
     /// ```
-    pub fn open(banner: &[u8], mut rx: R, mut msg: M) -> Result<Self, Error<'static>> {
+    pub fn open(banner: &[u8], mut rx: R, mut msg: M) -> Result<Self, Error> {
         let mut record = [0; RECORD];
         match raw::open(&mut record, banner, rx.as_mut().len(), msg.as_mut().len()) {
             0 => Ok(Self { record, reply: [0; REPLY], asked: None, rx, msg }),
@@ -156,7 +156,7 @@ impl<R: AsMut<[u8]>, M: AsMut<[u8]>> Session<R, M> {
     }
 
     /// The answer of this number that the last reply carries.
-    pub(crate) fn answered(&mut self, number: u32, fault: Option<io::Error>) -> Result<Answer<'_>, Error<'_>> {
+    pub(crate) fn answered(&mut self, number: u32, fault: Option<io::Error>) -> Result<Answer<'_>, Error> {
         match number {
             0 => Ok(answer(&self.reply, &self.rx.as_mut()[part(&self.reply, 1).range()])),
             14 => Err(Error::told(number, &self.reply, &self.msg.as_mut()[part(&self.reply, 1).range()], fault)),

@@ -12,33 +12,24 @@ use std::io::{ErrorKind, Read, Write};
 use std::{fmt, io};
 
 /// Why a transfer did not go through: the session's answer, or the file's own error.
-#[derive(Debug)]
-pub enum Failure<'a> {
+pub enum Failure {
     /// The session's answer.
-    Session(Error<'a>),
+    Session(Error),
     /// The reader or writer on this side failed. The transfer was left where it was, so the session should be closed.
     File(io::Error),
 }
 
-impl Failure<'_> {
-    /// Document 01's number; `None` for a failure on this side.
+impl Failure {
+    /// The answer's number; `None` for a failure on this side.
     pub fn number(&self) -> Option<u32> {
         match self {
             Self::Session(error) => Some(error.number()),
             Self::File(_) => None,
         }
     }
-
-    /// The same failure, with a FAIL's text copied out of the session's buffer.
-    pub fn into_owned(self) -> Failure<'static> {
-        match self {
-            Self::Session(error) => Failure::Session(error.into_owned()),
-            Self::File(error) => Failure::File(error),
-        }
-    }
 }
 
-impl fmt::Display for Failure<'_> {
+impl fmt::Display for Failure {
     fn fmt(&self, f: &mut fmt::Formatter<'_>) -> fmt::Result {
         match self {
             Self::Session(error) => error.fmt(f),
@@ -47,7 +38,14 @@ impl fmt::Display for Failure<'_> {
     }
 }
 
-impl std::error::Error for Failure<'_> {
+/// As it is displayed: this is what a `main` that returns it prints.
+impl fmt::Debug for Failure {
+    fn fmt(&self, f: &mut fmt::Formatter<'_>) -> fmt::Result {
+        fmt::Display::fmt(self, f)
+    }
+}
+
+impl std::error::Error for Failure {
     fn source(&self) -> Option<&(dyn std::error::Error + 'static)> {
         match self {
             Self::Session(error) => error.source(),
@@ -56,8 +54,8 @@ impl std::error::Error for Failure<'_> {
     }
 }
 
-impl<'a> From<Error<'a>> for Failure<'a> {
-    fn from(error: Error<'a>) -> Self {
+impl From<Error> for Failure {
+    fn from(error: Error) -> Self {
         Self::Session(error)
     }
 }
@@ -76,13 +74,14 @@ impl<R: AsMut<[u8]>, M: AsMut<[u8]>> Session<R, M> {
     ///
     /// let failure = session.pull(&mut link, "/jobs/none.job", &mut job).unwrap_err();
     /// assert_eq!(failure.to_string(), "14: the panel failed: open failed: No such file or directory");
+    /// assert_eq!(format!("{failure:?}"), failure.to_string(), "what `?` in a `main` shows");
     /// ```
     pub fn pull(
         &mut self,
         link: &mut (impl Link + ?Sized),
         path: impl AsRef<[u8]>,
         file: &mut (impl Write + ?Sized),
-    ) -> Result<u64, Failure<'_>> {
+    ) -> Result<u64, Failure> {
         let path = path.as_ref();
         let mut ended = self.either(link, &Call::RecvV2(path, SyncFlags::NONE), &Call::Recv(path)).0;
         let mut bytes = 0;
@@ -118,7 +117,7 @@ impl<R: AsMut<[u8]>, M: AsMut<[u8]>> Session<R, M> {
         mode: FileMode,
         mtime: u32,
         file: &mut (impl Read + ?Sized),
-    ) -> Result<u64, Failure<'_>> {
+    ) -> Result<u64, Failure> {
         let path = path.as_ref();
         let mut ended = self.either(link, &Call::SendV2(path, mode, SyncFlags::NONE), &Call::Send(path, mode)).0;
         let mut data = [0; DATA_MOST];
@@ -150,7 +149,7 @@ impl<R: AsMut<[u8]>, M: AsMut<[u8]>> Session<R, M> {
         link: &mut (impl Link + ?Sized),
         path: impl AsRef<[u8]>,
         mut each: impl FnMut(&[u8], Details),
-    ) -> Result<u64, Error<'_>> {
+    ) -> Result<u64, Error> {
         let path = path.as_ref();
         let (mut ended, v2) = self.either(link, &Call::ListV2(path), &Call::List(path));
         let next = if v2 { Call::NextEntryV2 } else { Call::NextEntry };
@@ -170,7 +169,7 @@ impl<R: AsMut<[u8]>, M: AsMut<[u8]>> Session<R, M> {
     }
 
     /// A file's numbers, by stat_v2 or stat.
-    pub fn details(&mut self, link: &mut (impl Link + ?Sized), path: impl AsRef<[u8]>) -> Result<Details, Error<'_>> {
+    pub fn details(&mut self, link: &mut (impl Link + ?Sized), path: impl AsRef<[u8]>) -> Result<Details, Error> {
         let path = path.as_ref();
         let (ended, _) = self.either(link, &Call::StatV2(path), &Call::Stat(path));
         match self.outcome(ended)? {

@@ -1,32 +1,12 @@
 //! The program `transfer`: what it says, what it leaves, and its exit status, with panels in it, on pipes and on sockets.
+mod common;
+use common::program::*;
 use std::fs;
 use std::io::Read;
 use std::os::unix::net::UnixListener;
-use std::path::{Path, PathBuf};
-use std::process::{Command, Output, Stdio};
+use std::process::{Command, Stdio};
 use std::thread;
 use yuglasno::panel::Panel;
-
-const PANEL: &str = env!("CARGO_BIN_EXE_panel");
-
-fn transfer(words: &[&str]) -> Output {
-    Command::new(env!("CARGO_BIN_EXE_transfer")).args(words).stdin(Stdio::null()).output().unwrap()
-}
-
-/// Exit status, standard output, standard error.
-fn told(words: &[&str]) -> (i32, String, String) {
-    let output = transfer(words);
-    let text = |bytes: Vec<u8>| String::from_utf8(bytes).unwrap();
-    (output.status.code().unwrap(), text(output.stdout), text(output.stderr))
-}
-
-/// An empty folder of a test's own.
-fn folder(name: &str) -> PathBuf {
-    let path = Path::new(env!("CARGO_TARGET_TMPDIR")).join(name);
-    let _ = fs::remove_dir_all(&path);
-    fs::create_dir_all(&path).unwrap();
-    path
-}
 
 fn toric() -> Vec<u8> {
     Panel::with_jobs().file("/jobs/1998-toric.job").unwrap()
@@ -41,14 +21,17 @@ fn stat_and_ls() {
     for features in ["", "ls_v2"] {
         let (status, said, _) = told(&["--panel", "--features", features, "--cut", "5", "ls", "/jobs"]);
         assert_eq!(status, 0);
-        assert!(said.starts_with("100660     160019  892000000 1998-toric.job\n"), "{said}");
+        let lines: Vec<&str> = said.lines().collect();
+        assert_eq!(lines[..2], [" 40771       4096          0 .", " 40771       4096          0 .."]);
+        assert_eq!(lines[2], "100660     160019  892000000 1998-toric.job");
         assert!(said.contains(" odd\\tname\\xff.job\n"), "{said}");
     }
 }
 
 #[test]
-fn pull_by_way_of_a_part() {
-    let file = folder("pull").join("out.job");
+fn pull_to_a_file() {
+    let folder = folder("pull");
+    let file = folder.join("out.job");
     let name = file.to_str().unwrap();
     let wheres: [&[&str]; 3] = [
         &["--panel", "--cut", "1000"],
@@ -60,27 +43,30 @@ fn pull_by_way_of_a_part() {
         assert_eq!(status, 0);
         assert_eq!(said, format!("/jobs/1998-toric.job: 160019 bytes pulled to {name}\n"));
         assert!(fs::read(&file).unwrap() == toric());
-        assert!(!Path::new(&format!("{name}.part")).exists());
+        assert_eq!(names(&folder), ["out.job"]);
         fs::remove_file(&file).unwrap();
     }
 }
 
 #[test]
 fn a_failed_pull_leaves_the_file_as_it_was() {
-    let file = folder("failed").join("out.job");
+    let folder = folder("failed");
+    let file = folder.join("out.job");
     let name = file.to_str().unwrap();
     fs::write(&file, "the job of last week").unwrap();
     for (words, expected) in [
-        (&["--panel", "pull", "/jobs/none", name][..], 14),
+        (&["--panel", "pull", "/jobs/none", name][..], 16),
+        (&["--panel", "--features", "", "pull", "/jobs/none", name], 67),
+        (&["--panel", "pull", "/jobs", name], 14),
         (&["--panel", "--capacity", "65543", "pull", "/jobs/1998-toric.job", name], 17),
         (&["--exec", "true", "--", "pull", "/jobs/none", name], 12),
-        (&["--exec", "cat", "--", "pull", "/jobs/none", name], 15),
+        (&["--exec", "cat", "--", "pull", "/jobs/none", name], 65),
     ] {
         let (status, said, error) = told(words);
         assert_eq!((status, said.as_str()), (expected, ""), "{words:?}: {error}");
         assert!(error.starts_with(&format!("transfer: {expected}: ")), "{words:?}: {error}");
         assert_eq!(fs::read(&file).unwrap(), b"the job of last week");
-        assert!(!Path::new(&format!("{name}.part")).exists());
+        assert_eq!(names(&folder), ["out.job"], "{words:?}");
     }
 }
 
@@ -122,7 +108,7 @@ fn over_standard_input_and_output() {
     let near = std::os::unix::net::UnixStream::connect(&path).unwrap();
     let (far, _) = listener.accept().unwrap();
     let served = thread::spawn(move || Panel::with_jobs().cut(3).serve(&mut &far, &mut &far));
-    let mut child = Command::new(env!("CARGO_BIN_EXE_transfer"))
+    let mut child = Command::new(TRANSFER)
         .args(["--stdio", "ls", "/jobs"])
         .stdin(Stdio::from(std::os::fd::OwnedFd::from(near.try_clone().unwrap())))
         .stdout(Stdio::from(std::os::fd::OwnedFd::from(near)))
@@ -132,7 +118,7 @@ fn over_standard_input_and_output() {
     let mut said = String::new();
     child.stderr.take().unwrap().read_to_string(&mut said).unwrap();
     assert!(child.wait().unwrap().success());
-    assert_eq!(said.lines().count(), 5);
+    assert_eq!(said.lines().count(), 7);
     served.join().unwrap().unwrap();
 }
 

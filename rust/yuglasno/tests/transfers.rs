@@ -64,13 +64,18 @@ fn listings_at_every_cut() {
             }
             let mut session = session(banner, least);
             let mut next = 0;
+            let mut dots = 0;
             let entries = session.entries(&mut panel, "/many/", |name, details| {
+                if name == b"." || name == b".." {
+                    dots += 1;
+                    return assert!(details.mode().is_folder());
+                }
                 assert_eq!(name, format!("job {next:02}").as_bytes());
                 assert_eq!((details.size(), details.mtime(), details.mode()), (next, next as i64, MODE));
                 assert_eq!(matches!(details, Details::V2(_)), !banner.is_empty());
                 next += 1;
             });
-            assert_eq!(entries.unwrap(), 30);
+            assert_eq!((entries.unwrap(), next, dots), (32, 30, 2));
             assert_eq!(session.entries(&mut panel, "/none", |_, _| panic!()).unwrap(), 0);
             assert_eq!(session.details(&mut panel, "/many").unwrap().mode().to_string(), "40771");
         }
@@ -147,7 +152,7 @@ fn a_file_on_this_side_that_fails() {
         }
     }
     let mut one = session(b"", CAPACITY);
-    let failure = one.pull(&mut Panel::with_jobs(), TORIC, &mut Full).unwrap_err().into_owned();
+    let failure = one.pull(&mut Panel::with_jobs(), TORIC, &mut Full).unwrap_err();
     assert_eq!((failure.number(), failure.to_string().as_str()), (None, "no storage space"));
 
     struct Unreadable;
@@ -175,7 +180,20 @@ fn a_folder_as_a_panel() {
     assert_eq!((stat.mode.0, stat.size, stat.mtime), (0o100_600, 70_000, 1998));
     let mut names = Vec::new();
     session.entries(&mut panel, "/a", |name, _| names.push(name.to_vec())).unwrap();
-    assert_eq!(names, [b"b.job"]);
+    assert_eq!(names, [&b"."[..], b"..", b"b.job"]);
     let failure = session.push(&mut panel, "/../out", MODE, 5, &mut &b"x"[..]).unwrap_err();
     assert_eq!(failure.to_string(), "14: the panel failed: couldn't create file: Permission denied");
+}
+
+/// What README's program does, of a job that may be missing: the session is dropped before the error is looked at.
+fn pulled(path: &str) -> Result<u64, Box<dyn std::error::Error + Send + Sync>> {
+    let mut one = session(Panel::BANNER, CAPACITY);
+    Ok(one.pull(&mut Panel::with_jobs(), path, &mut Vec::new())?)
+}
+
+#[test]
+fn an_error_outlives_its_session() {
+    assert_eq!(pulled("/jobs/empty.job").unwrap(), 0);
+    let failure = pulled("/jobs/none.job").unwrap_err();
+    assert_eq!(failure.to_string(), "14: the panel failed: open failed: No such file or directory");
 }

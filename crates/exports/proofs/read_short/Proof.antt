@@ -11,7 +11,7 @@ met : tie.Need-read-met-requires
 met c κs = sym (c .before .before .before .before .if1 .taken) ∙ c .before .before .before .before .before .short-tail .ensures
 
 away : tie.Need-returns-2
-away c = let a = c .before .before .before .before .before .before .before .before .before .before .before .before .before .before .before .before .before .before .before .before .before .before .args in c .before .before .before .before .before .before .before .before .read-anew .ensures ∙ read-away (now (a .rec)) (now (a .rx)) (now (a .msg)) (now (a .lent)) (now (a .out)) (a .count) (c .before .before .before .before .before .before .before .before .before .before .before .before .before .if2 .taken)
+away c = let a = c .before .before .before .before .before .before .before .before .before .before .before .before .before .before .before .before .before .before .before .before .before .before .args in c .before .before .before .before .before .before .before .before .slow-read .ensures ∙ read-away (now (a .rec)) (now (a .rx)) (now (a .msg)) (now (a .lent)) (now (a .out)) (a .count) (c .before .before .before .before .before .before .before .before .before .before .before .before .before .if2 .taken)
 
 room : tie.Need-sub-len
 room c = let a = c .before .before .before .before .before .before .before .before .before .args in short-room (now (a .rec)) (now (a .rx)) (now (a .msg)) (now (a .lent)) (now (a .out)) (a .count) _ (c .before .before .short-tail .ensures) (omega arith)

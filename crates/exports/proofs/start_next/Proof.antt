@@ -1,29 +1,23 @@
 -- `exports::start_next` meets its contract: a step that was taken at once is its crossing, and one that was not has altered nothing.
 -- Assumes nothing.
-use mathlib.Core.List.{List}
 use mathlib.Core.Path.{ap, _∙_}
-use Prim.Native.Nat.{ℕ}
 use borrow.Author.Needs.{needs}
 use denote.Ref.{now}
-use Rattle.boundary.specs.Crossing.{Crossed, crossStart}
-use Rattle.direct.proofs.Taken.{was-taken, was-left}
+use Rattle.fast_replies.proofs.Taken.{was-taken, was-left}
+use Rattle.exports.proofs.Again.{startAgain}
 use Rattle.exports.proofs.start_next.Statement.{statement}
 use Rattle.exports.proofs.start_next.Tie as tie
-
--- the crossing of what was left
-abbrev again : List ℕ → (call a b : ℕ) → Crossed → Crossed
-again lent call a b x = crossStart (x .rec) (x .rx) (x .msg) lent call a b (x .out)
 
 chunk : tie.Need-returns
 chunk c =
     let a = c .before .before .before .before .before .before .before .before .before .before .before .before .before .before .before .args in
     was-taken _ _ _ _ _ (c .before .before .before .before .before .next .ensures (a .a) (a .b)) (c .if1 .taken)
 
-anew : tie.Need-returns-2
-anew c =
+slow : tie.Need-returns-2
+slow c =
     let a = c .before .before .before .before .before .before .before .before .before .before .before .before .before .before .before .before .before .before .before .before .before .before .before .before .before .before .before .before .args in
-    c .before .before .before .before .before .before .before .before .start-anew .ensures
-    ∙ ap (again (now (a .lent)) (a .call) (a .a) (a .b)) (was-left _ _ _ _ _ (c .before .before .before .before .before .before .before .before .before .before .before .before .before .before .before .before .before .before .next .ensures (a .a) (a .b)) (c .before .before .before .before .before .before .before .before .before .before .before .before .before .if1 .left))
+    c .before .before .before .before .before .before .before .before .slow-start .ensures
+    ∙ ap (startAgain (now (a .lent)) (a .call) (a .a) (a .b)) (was-left _ _ _ _ _ (c .before .before .before .before .before .before .before .before .before .before .before .before .before .before .before .before .before .before .next .ensures (a .a) (a .b)) (c .before .before .before .before .before .before .before .before .before .before .before .before .before .if1 .left))
 
 pub start-next-spec : {M : Type 1} → statement M
 start-next-spec =
@@ -40,4 +34,4 @@ start-next-spec =
     (λ c. search needs)
     (λ c. search needs)
     (λ c. search needs)
-    anew)
+    slow)

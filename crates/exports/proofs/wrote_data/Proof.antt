@@ -1,18 +1,12 @@
 -- `exports::wrote_data` meets its contract: a step that was taken at once is its crossing, and one that was not has altered nothing.
 -- Assumes nothing.
-use mathlib.Core.List.{List}
 use mathlib.Core.Path.{ap, _∙_}
-use Prim.Native.Nat.{ℕ}
 use borrow.Author.Needs.{needs}
 use denote.Ref.{now}
-use Rattle.boundary.specs.Crossing.{Crossed, crossWrote}
-use Rattle.direct.proofs.Taken.{was-taken, was-left}
+use Rattle.fast_replies.proofs.Taken.{was-taken, was-left}
+use Rattle.exports.proofs.Again.{wroteAgain}
 use Rattle.exports.proofs.wrote_data.Statement.{statement}
 use Rattle.exports.proofs.wrote_data.Tie as tie
-
--- the crossing of what was left
-abbrev again : List ℕ → Crossed → Crossed
-again lent x = crossWrote (x .rec) (x .rx) (x .msg) lent (x .out)
 
 part : tie.Need-returns
 part c = was-taken _ _ _ _ _ (c .before .before .before .before .before .part-out .ensures) (c .if1 .taken)
@@ -21,22 +15,22 @@ header : tie.Need-returns-2
 header c =
     let a = c .before .before .before .before .before .before .before .before .before .before .before .before .before .before .before .before .before .before .before .before .before .before .before .before .before .args in
     was-taken _ _ _ _ _ (c .before .before .before .before .before .header-out .ensures) (c .if2 .taken)
-    ∙ ap (again (now (a .lent))) (was-left _ _ _ _ _ (c .before .before .before .before .before .before .before .before .before .before .before .before .before .before .before .part-out .ensures) (c .before .before .before .before .before .before .before .before .before .before .if1 .left))
+    ∙ ap (wroteAgain (now (a .lent))) (was-left _ _ _ _ _ (c .before .before .before .before .before .before .before .before .before .before .before .before .before .before .before .part-out .ensures) (c .before .before .before .before .before .before .before .before .before .before .if1 .left))
 
 whole : tie.Need-returns-3
 whole c =
     let a = c .before .before .before .before .before .before .before .before .before .before .before .before .before .before .before .before .before .before .before .before .before .before .before .before .before .before .before .before .before .before .before .before .before .before .before .before .before .args in
     was-taken _ _ _ _ _ (c .before .before .before .before .before .before .before .whole-out .ensures) (c .if3 .taken)
-    ∙ ap (again (now (a .lent))) (was-left _ _ _ _ _ (c .before .before .before .before .before .before .before .before .before .before .before .before .before .before .before .before .before .header-out .ensures) (c .before .before .before .before .before .before .before .before .before .before .before .before .if2 .left))
-    ∙ ap (again (now (a .lent))) (was-left _ _ _ _ _ (c .before .before .before .before .before .before .before .before .before .before .before .before .before .before .before .before .before .before .before .before .before .before .before .before .before .before .before .part-out .ensures) (c .before .before .before .before .before .before .before .before .before .before .before .before .before .before .before .before .before .before .before .before .before .before .if1 .left))
+    ∙ ap (wroteAgain (now (a .lent))) (was-left _ _ _ _ _ (c .before .before .before .before .before .before .before .before .before .before .before .before .before .before .before .before .before .header-out .ensures) (c .before .before .before .before .before .before .before .before .before .before .before .before .if2 .left))
+    ∙ ap (wroteAgain (now (a .lent))) (was-left _ _ _ _ _ (c .before .before .before .before .before .before .before .before .before .before .before .before .before .before .before .before .before .before .before .before .before .before .before .before .before .before .before .part-out .ensures) (c .before .before .before .before .before .before .before .before .before .before .before .before .before .before .before .before .before .before .before .before .before .before .if1 .left))
 
-anew : tie.Need-returns-4
-anew c =
+slow : tie.Need-returns-4
+slow c =
     let a = c .before .before .before .before .before .before .before .before .before .before .before .before .before .before .before .before .before .before .before .before .before .before .before .before .before .before .before .before .before .before .before .before .before .before .before .before .before .before .before .before .before .before .before .before .before .before .before .before .before .before .args in
-    c .before .before .before .before .before .before .before .before .wrote-anew .ensures
-    ∙ ap (again (now (a .lent))) (was-left _ _ _ _ _ (c .before .before .before .before .before .before .before .before .before .before .before .before .before .before .before .before .before .before .before .before .whole-out .ensures) (c .before .before .before .before .before .before .before .before .before .before .before .before .before .if3 .left))
-    ∙ ap (again (now (a .lent))) (was-left _ _ _ _ _ (c .before .before .before .before .before .before .before .before .before .before .before .before .before .before .before .before .before .before .before .before .before .before .before .before .before .before .before .before .before .before .header-out .ensures) (c .before .before .before .before .before .before .before .before .before .before .before .before .before .before .before .before .before .before .before .before .before .before .before .before .before .if2 .left))
-    ∙ ap (again (now (a .lent))) (was-left _ _ _ _ _ (c .before .before .before .before .before .before .before .before .before .before .before .before .before .before .before .before .before .before .before .before .before .before .before .before .before .before .before .before .before .before .before .before .before .before .before .before .before .before .before .before .part-out .ensures) (c .before .before .before .before .before .before .before .before .before .before .before .before .before .before .before .before .before .before .before .before .before .before .before .before .before .before .before .before .before .before .before .before .before .before .before .if1 .left))
+    c .before .before .before .before .before .before .before .before .slow-wrote .ensures
+    ∙ ap (wroteAgain (now (a .lent))) (was-left _ _ _ _ _ (c .before .before .before .before .before .before .before .before .before .before .before .before .before .before .before .before .before .before .before .before .whole-out .ensures) (c .before .before .before .before .before .before .before .before .before .before .before .before .before .if3 .left))
+    ∙ ap (wroteAgain (now (a .lent))) (was-left _ _ _ _ _ (c .before .before .before .before .before .before .before .before .before .before .before .before .before .before .before .before .before .before .before .before .before .before .before .before .before .before .before .before .before .before .header-out .ensures) (c .before .before .before .before .before .before .before .before .before .before .before .before .before .before .before .before .before .before .before .before .before .before .before .before .before .if2 .left))
+    ∙ ap (wroteAgain (now (a .lent))) (was-left _ _ _ _ _ (c .before .before .before .before .before .before .before .before .before .before .before .before .before .before .before .before .before .before .before .before .before .before .before .before .before .before .before .before .before .before .before .before .before .before .before .before .before .before .before .before .part-out .ensures) (c .before .before .before .before .before .before .before .before .before .before .before .before .before .before .before .before .before .before .before .before .before .before .before .before .before .before .before .before .before .before .before .before .before .before .before .if1 .left))
 
 pub wrote-data-spec : {M : Type 1} → statement M
 wrote-data-spec =
@@ -65,4 +59,4 @@ wrote-data-spec =
     (λ c. search needs)
     (λ c. search needs)
     (λ c. search needs)
-    anew)
+    slow)

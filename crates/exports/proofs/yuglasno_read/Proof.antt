@@ -4,7 +4,7 @@ use mathlib.Core.Path.{ap, _∙_}
 use borrow.Author.Needs.{needs}
 use denote.Ref.{now}
 use Rattle.boundary.specs.Crossing.{Crossed, crossRead}
-use Rattle.direct.proofs.Taken.{was-taken, was-left}
+use Rattle.fast_replies.proofs.Taken.{was-taken, was-left}
 use Rattle.exports.proofs.yuglasno_read.Statement.{statement}
 use Rattle.exports.proofs.yuglasno_read.Tie as tie
 

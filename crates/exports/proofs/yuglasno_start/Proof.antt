@@ -1,18 +1,12 @@
 -- `exports::yuglasno_start` meets its contract: a step that was taken at once is its crossing, and one that was not has altered nothing.
 -- Assumes nothing.
-use mathlib.Core.List.{List}
 use mathlib.Core.Path.{ap, _∙_}
-use Prim.Native.Nat.{ℕ}
 use borrow.Author.Needs.{needs}
 use denote.Ref.{now}
-use Rattle.boundary.specs.Crossing.{Crossed, crossStart}
-use Rattle.direct.proofs.Taken.{was-taken, was-left}
+use Rattle.fast_replies.proofs.Taken.{was-taken, was-left}
+use Rattle.exports.proofs.Again.{startAgain}
 use Rattle.exports.proofs.yuglasno_start.Statement.{statement}
 use Rattle.exports.proofs.yuglasno_start.Tie as tie
-
--- the crossing of what was left
-abbrev again : List ℕ → (call a b : ℕ) → Crossed → Crossed
-again lent call a b x = crossStart (x .rec) (x .rx) (x .msg) lent call a b (x .out)
 
 entry : tie.Need-returns
 entry c =
@@ -23,14 +17,14 @@ request : tie.Need-returns-2
 request c =
     let a = c .before .before .before .before .before .before .before .before .before .before .before .before .before .before .before .before .before .before .before .before .before .before .before .before .before .before .before .args in
     was-taken _ _ _ _ _ (c .before .before .before .before .before .before .before .request .ensures (a .a) (a .b)) (c .if2 .taken)
-    ∙ ap (again (now (a .lent)) (a .call) (a .a) (a .b)) (was-left _ _ _ _ _ (c .before .before .before .before .before .before .before .before .before .before .before .before .before .before .before .before .before .entry .ensures (a .a) (a .b)) (c .before .before .before .before .before .before .before .before .before .before .before .before .if1 .left))
+    ∙ ap (startAgain (now (a .lent)) (a .call) (a .a) (a .b)) (was-left _ _ _ _ _ (c .before .before .before .before .before .before .before .before .before .before .before .before .before .before .before .before .before .entry .ensures (a .a) (a .b)) (c .before .before .before .before .before .before .before .before .before .before .before .before .if1 .left))
 
 rest : tie.Need-returns-3
 rest c =
     let a = c .before .before .before .before .before .before .before .before .before .before .before .before .before .before .before .before .before .before .before .before .before .before .before .before .before .before .before .before .before .before .before .before .before .before .before .before .before .before .before .before .args in
     c .before .before .before .before .before .before .before .before .start-next .ensures
-    ∙ ap (again (now (a .lent)) (a .call) (a .a) (a .b)) (was-left _ _ _ _ _ (c .before .before .before .before .before .before .before .before .before .before .before .before .before .before .before .before .before .before .before .before .request .ensures (a .a) (a .b)) (c .before .before .before .before .before .before .before .before .before .before .before .before .before .if2 .left))
-    ∙ ap (again (now (a .lent)) (a .call) (a .a) (a .b)) (was-left _ _ _ _ _ (c .before .before .before .before .before .before .before .before .before .before .before .before .before .before .before .before .before .before .before .before .before .before .before .before .before .before .before .before .before .before .entry .ensures (a .a) (a .b)) (c .before .before .before .before .before .before .before .before .before .before .before .before .before .before .before .before .before .before .before .before .before .before .before .before .before .if1 .left))
+    ∙ ap (startAgain (now (a .lent)) (a .call) (a .a) (a .b)) (was-left _ _ _ _ _ (c .before .before .before .before .before .before .before .before .before .before .before .before .before .before .before .before .before .before .before .before .request .ensures (a .a) (a .b)) (c .before .before .before .before .before .before .before .before .before .before .before .before .before .if2 .left))
+    ∙ ap (startAgain (now (a .lent)) (a .call) (a .a) (a .b)) (was-left _ _ _ _ _ (c .before .before .before .before .before .before .before .before .before .before .before .before .before .before .before .before .before .before .before .before .before .before .before .before .before .before .before .before .before .before .entry .ensures (a .a) (a .b)) (c .before .before .before .before .before .before .before .before .before .before .before .before .before .before .before .before .before .before .before .before .before .before .before .before .before .if1 .left))
 
 pub yuglasno-start-spec : {M : Type 1} → statement M
 yuglasno-start-spec =

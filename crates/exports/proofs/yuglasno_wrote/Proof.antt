@@ -4,15 +4,15 @@ use mathlib.Core.Path.{ap, _∙_}
 use borrow.Author.Needs.{needs}
 use denote.Ref.{now}
 use Rattle.boundary.specs.Crossing.{Crossed, crossWrote}
-use Rattle.direct.proofs.Taken.{was-taken, was-left}
+use Rattle.fast_replies.proofs.Taken.{was-taken, was-left}
 use Rattle.exports.proofs.yuglasno_wrote.Statement.{statement}
 use Rattle.exports.proofs.yuglasno_wrote.Tie as tie
 
 sent : tie.Need-returns
 sent c = was-taken _ _ _ _ _ (c .before .before .before .before .before .sent .ensures) (c .if1 .taken)
 
-anew : tie.Need-returns-2
-anew c =
+slow : tie.Need-returns-2
+slow c =
     let a = c .before .before .before .before .before .before .before .before .before .before .before .before .before .before .before .before .before .before .before .before .before .before .before .before .before .before .before .before .args in
     c .before .before .before .before .before .before .before .before .wrote-data .ensures
     ∙ ap (λ (x : Crossed). crossWrote (x .rec) (x .rx) (x .msg) (now (a .lent)) (x .out)) (was-left _ _ _ _ _ (c .before .before .before .before .before .before .before .before .before .before .before .before .before .before .before .before .before .before .sent .ensures) (c .before .before .before .before .before .before .before .before .before .before .before .before .before .if1 .left))
@@ -32,4 +32,4 @@ yuglasno-wrote-spec =
     (λ c. search needs)
     (λ c. search needs)
     (λ c. search needs)
-    anew)
+    slow)

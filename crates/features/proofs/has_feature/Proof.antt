@@ -6,13 +6,13 @@ use denote.Ref.{now}
 use native.Mathlib.Omega.{arith}
 use borrow.Author.Needs.{needs}
 use lib.ListN.{length, drop}
-use Rattle.protocol.specs.Features.{marker, after, hasFeature}
+use Rattle.protocol.specs.Features.{marker, restAfter, hasFeature}
 use Rattle.protocol.proofs.Features.{after-here, after-next, after-end}
 use Rattle.features.proofs.has_feature.Statement.{statement}
 use Rattle.features.proofs.has_feature.Tie as tie
 
 abbrev Inv-loop : tie.InvT-loop
-Inv-loop banner name end₀ t4 end = (9 ≤ end) × (after marker banner ≡ after marker (drop (end - 9) banner))
+Inv-loop banner name end₀ t4 end = (9 ≤ end) × (restAfter marker banner ≡ restAfter marker (drop (end - 9) banner))
 
 abbrev μ-loop : tie.MeasureT-loop
 μ-loop banner name end₀ t4 end = length banner + 1 - end

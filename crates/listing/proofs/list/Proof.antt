@@ -3,8 +3,8 @@ use native.Mathlib.Omega.{arith}
 use borrow.Author.Needs.{needs}
 use denote.Ref.{now}
 use lib.ListN.{length}
-use Rattle.lines.specs.Lines.{heading, headingRoom}
-use Rattle.lines.proofs.Laws.{heading-length, laid-length, laid-laid, laid-of}
+use Rattle.listing_lines.specs.Lines.{heading, headingRoom}
+use Rattle.listing_lines.proofs.Laws.{heading-length, laid-length, laid-laid, laid-of}
 use Rattle.listing.specs.Listing.{printed}
 use Rattle.listing.proofs.Opening.{session-is, not-refused}
 use Rattle.listing.proofs.list.Statement.{statement}

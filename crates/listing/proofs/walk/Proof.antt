@@ -7,7 +7,7 @@ use native.Mathlib.Omega.{arith}
 use borrow.Author.Needs.{needs}
 use denote.Ref.{now}
 use lib.ListN.{length}
-use Rattle.lines.specs.Lines.{Laid}
+use Rattle.listing_lines.specs.Lines.{Laid}
 use Rattle.listing.specs.Steps.{told}
 use Rattle.listing.proofs.Entries.{ahead, Walk, walk-first, listed-first, walk-goes, walk-ends, walk-falls, rank-of}
 use Rattle.listing.proofs.walk.Statement.{statement}

@@ -7,18 +7,18 @@ use Rattle.record_load.proofs.pending.Statement.{statement}
 use Rattle.record_load.proofs.pending.Tie as tie
 
 idle : tie.Need-returns
-idle c = arm (wordOf (now (c .before .before .before .args .rec))) (c .before .word .ensures) (c .if1 .taken)
+idle c = arm (wordOf (now (c .before .before .before .args .rec))) (c .before .place .ensures) (c .if1 .taken)
 
 writing : tie.Need-returns-2
-writing c = rw (c .before .place .ensures, c .place2 .ensures) (c .before .before .request .ensures)
+writing c = rw (c .before .place2 .ensures, c .place3 .ensures) (c .before .before .request .ensures)
 
 closing : tie.Need-returns-3
 closing c =
-    rw (c .half .ensures, c .before .before .word2 .ensures)
-    (arm (wordOf (now (c .before .before .before .before .before .before .before .args .rec))) (c .before .before .before .before .before .word .ensures) (c .before .if3 .taken))
+    rw (c .half .ensures, c .before .before .word .ensures)
+    (arm (wordOf (now (c .before .before .before .before .before .before .before .args .rec))) (c .before .before .before .before .before .place .ensures) (c .before .if3 .taken))
 
 reading : tie.Need-returns-4
-reading c = rw (c .place3 .ensures, c .before .before .before .word2 .ensures) (c .before .phase .ensures)
+reading c = rw (c .place4 .ensures, c .before .before .before .word .ensures) (c .before .phase .ensures)
 
 pub pending-spec : {M : Type 1} → statement M
 pending-spec =

@@ -1,6 +1,6 @@
 //! A test panel over standard input and output, or a Unix socket.
 #![forbid(unsafe_code)]
-use std::io;
+use std::io::{self, Write};
 use std::os::unix::net::UnixListener;
 use std::path::PathBuf;
 use std::process::ExitCode;
@@ -48,16 +48,21 @@ impl Plan {
 
 fn main() -> ExitCode {
     let Some(plan) = Plan::parsed() else {
-        eprint!("{USAGE}");
+        let _ = io::stderr().write_all(USAGE.as_bytes());
         return ExitCode::from(64);
     };
     match run(&plan) {
         Ok(()) => ExitCode::SUCCESS,
         Err(error) => {
-            eprintln!("panel: {error}");
+            failed(&error);
             ExitCode::from(74)
         }
     }
+}
+
+/// Says why; where that can't be written the exit status still does.
+fn failed(error: &io::Error) {
+    let _ = writeln!(io::stderr(), "panel: {error}");
 }
 
 fn run(plan: &Plan) -> io::Result<()> {
@@ -73,7 +78,7 @@ fn run(plan: &Plan) -> io::Result<()> {
             return served;
         }
         if let Err(error) = served {
-            eprintln!("panel: {error}");
+            failed(&error);
         }
     }
 }

@@ -6,6 +6,7 @@ mod jobs;
 mod replies;
 mod requests;
 
+use crate::answer::StatV2;
 use crate::numbers::FileMode;
 use files::Files;
 use requests::{first, Request, Version};
@@ -126,7 +127,7 @@ impl Panel {
                 replies::stat_v2(&mut self.replies, &files::or_errno(self.files.stat(&path)));
             }
             Request::List(version, path) => {
-                for (name, stat) in self.files.list(&path) {
+                for (name, stat) in self.dots(&path).into_iter().chain(self.files.list(&path)) {
                     replies::entry(&mut self.replies, version, &name, &stat);
                 }
                 replies::listing_end(&mut self.replies, version);
@@ -152,6 +153,14 @@ impl Panel {
             },
             Request::Done(mtime) => self.finish(mtime),
             Request::Quit => self.ended = true,
+        }
+    }
+
+    /// What a folder lists before its entries, both with its own numbers here; nothing of what is no folder.
+    fn dots(&self, path: &[u8]) -> Vec<(Vec<u8>, StatV2)> {
+        match self.files.stat(path) {
+            Ok(stat) if stat.mode.is_folder() => vec![(b".".to_vec(), stat), (b"..".to_vec(), stat)],
+            _ => Vec::new(),
         }
     }
 

@@ -1,5 +1,10 @@
-//! A scripted link, and the bytes of replies, written out by hand from document 01's offsets.
+//! A scripted link, and the bytes of replies, written out by hand from file_sync_protocol.h's offsets.
 #![allow(dead_code)]
+pub mod archives;
+pub mod fake;
+pub mod program;
+pub mod shelf;
+
 use std::io;
 use yuglasno::{Fault, Link};
 

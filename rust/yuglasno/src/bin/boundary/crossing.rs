@@ -47,10 +47,6 @@ pub fn refused(number: u32) -> bool {
     number & 255 == 0 && (1..=11).contains(&(number >> 8))
 }
 
-/// The fault of a reply that names a part outside its slice. Only a record that the library did not write may do so: the
-/// library itself reads and writes none of it.
-pub const ASTRAY: &str = "a part outside its slice";
-
 /// What a crossing broke, if anything: `before` and `after` are the slices around it, `number` what was returned.
 pub fn fault(before: &Slices, after: &Slices, number: u32) -> Option<&'static str> {
     for slice in [&after.rec, &after.rx, &after.msg, &after.lent, &after.out] {
@@ -77,7 +73,7 @@ pub fn fault(before: &Slices, after: &Slices, number: u32) -> Option<&'static st
         return None;
     }
     if !parts_within(after, number) {
-        return Some(ASTRAY);
+        return Some("the reply names a part outside its slice");
     }
     match written(after, number) {
         Some(length) if before.out.bytes()[length..] == after.out.bytes()[length..] => None,

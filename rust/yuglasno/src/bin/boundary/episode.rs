@@ -1,5 +1,5 @@
 //! A session from its opening on: steps that a host would take, and wild ones.
-use crate::crossing::{fault, refused, Function, Slices, ASTRAY};
+use crate::crossing::{fault, refused, Function, Slices};
 use crate::lent::Lent;
 use crate::opening::opened;
 use crate::random::Random;
@@ -188,12 +188,9 @@ impl<'c> Episode<'c> {
             0 => self.counts.answered[(number >> 8).min(17) as usize] += 1,
             what => self.counts.asked[what.min(5) as usize] += 1,
         }
-        match fault(&before, &self.slices, number) {
-            Some(fault) if fault != ASTRAY || !self.altered => {
-                return Err(format!("{function:?} returned {number:#x}: {fault}"));
-            }
-            Some(_) => self.counts.astray += 1,
-            None => {}
+        self.counts.altered += u64::from(self.altered);
+        if let Some(fault) = fault(&before, &self.slices, number) {
+            return Err(format!("{function:?} returned {number:#x}: {fault}"));
         }
         if self.random.one_in(8) {
             let mut again = before;

@@ -12,6 +12,7 @@ mod stream;
 
 use episode::Episode;
 use random::Random;
+use std::io::{self, Write};
 use std::process::ExitCode;
 
 /// How often each thing was answered or asked.
@@ -21,15 +22,15 @@ pub struct Counts {
     pub opened: u64,
     pub answered: [u64; 18],
     pub asked: [u64; 6],
-    /// Parts outside their slices, of altered records.
-    pub astray: u64,
+    /// Calls on a record that was altered.
+    pub altered: u64,
 }
 
 fn main() -> ExitCode {
     let words: Vec<String> = std::env::args().skip(1).collect();
     let numbers: Vec<u64> = words.iter().filter_map(|word| word.parse().ok()).collect();
     let [calls, seed] = numbers[..] else {
-        eprintln!("usage: boundary CALLS SEED");
+        let _ = writeln!(io::stderr(), "usage: boundary CALLS SEED");
         return ExitCode::from(64);
     };
     let mut counts = Counts::default();
@@ -50,10 +51,10 @@ fn print(counts: &Counts, seed: u64) {
     let sum = |numbers: &[u64]| numbers.iter().sum::<u64>();
     let each: Vec<String> = counts.answered.iter().enumerate().map(|(number, n)| format!("{number}: {n}")).collect();
     println!("answers by number: {}", each.join(", "));
-    println!("parts outside their slices, all of records that were altered: {}", counts.astray);
+    println!("on records that were altered: {} calls", counts.altered);
     println!(
         "{} calls (seed {seed}): {} opened, {} refused, {} answered, {} asked for reads, {} for writes, {} for the close; \
-         no byte out of place",
+         no byte out of place, no part outside its slice",
         counts.calls,
         counts.opened,
         sum(&counts.answered[1..12]),

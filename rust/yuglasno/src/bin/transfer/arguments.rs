@@ -1,35 +1,15 @@
-//! The command line.
+//! The command line: options in any place, and the command's words.
+use crate::archive::Order;
 use std::ffi::{OsStr, OsString};
 use std::os::unix::ffi::{OsStrExt, OsStringExt};
 use std::path::PathBuf;
+use std::time::Duration;
+use yuglasno::adb::Address;
 use yuglasno::{FileMode, CAPACITY};
-
-pub const USAGE: &str = "\
-usage: transfer [WHERE] [OPTIONS] COMMAND
-
-where the panel is:
-  --server HOST:PORT [--serial S]   a device of an ADB server (the default, at 127.0.0.1:5037)
-  --unix PATH                       a Unix socket that speaks sync
-  --stdio                           standard input and output; what is said goes to standard error
-  --exec COMMAND [ARGS..] --        a program's standard input and output
-  --panel [--cut N]                 a panel in this program, with a few jobs under /jobs; its replies come in pieces of 1 to N bytes
-
-options:
-  --features LIST                   the panel's features, such as stat_v2,ls_v2,sendrecv_v2, where it does not say them
-  --capacity N                      the receive buffer's length (65544 takes every DATA message)
-
-commands:
-  stat PATH                         a file's numbers
-  ls PATH                           a folder's entries: mode, size, time in Unix seconds, name
-  pull PATH FILE                    the panel's PATH to FILE, by way of FILE.part
-  push FILE PATH [MODE]             FILE to the panel's PATH, with an octal MODE (644)
-
-exit status: 0 done; 1 to 17 the session's answer, by its number; 64 usage; 66 FILE can't be read; 69 no panel there;
-73 FILE can't be made; 74 another error on this side
-";
 
 pub enum Request {
     Help,
+    Version,
     Run(Plan),
 }
 
@@ -41,28 +21,61 @@ pub struct Plan {
 }
 
 pub enum Place {
-    Server { address: String, serial: Option<String> },
-    Unix(PathBuf),
+    /// Without an address or serial, those of the environment.
+    Server {
+        address: Option<Address>,
+        serial: Option<String>,
+        timeout: Option<Duration>,
+    },
+    Unix {
+        path: PathBuf,
+        timeout: Option<Duration>,
+    },
     Stdio,
     Exec(Vec<OsString>),
-    Panel { cut: Option<usize> },
+    Panel {
+        cut: Option<usize>,
+    },
 }
 
+/// A FILE that is `-` is standard input or output.
 pub enum Command {
     Stat(Vec<u8>),
     List(Vec<u8>),
     Pull { path: Vec<u8>, file: PathBuf },
-    Push { file: PathBuf, path: Vec<u8>, mode: FileMode },
+    Push { file: PathBuf, path: Vec<u8>, mode: Option<FileMode> },
+    Archive(Order),
+    Verify(PathBuf),
 }
 
-/// The options as they were given.
+/// The commands and the words that each wants.
+const COMMANDS: [(&str, &str); 6] = [
+    ("stat", "PATH"),
+    ("ls", "PATH"),
+    ("pull", "PATH FILE"),
+    ("push", "FILE PATH [MODE]"),
+    ("archive", "FOLDER DIR"),
+    ("verify", "DIR"),
+];
+
+impl Command {
+    /// Whether it reads standard input or writes a file to standard output.
+    pub fn takes_stdio(&self) -> bool {
+        matches!(self, Self::Pull { file, .. } | Self::Push { file, .. } if file.as_os_str() == "-")
+    }
+}
+
+/// The options as they were given, and the other words.
 #[derive(Default)]
 struct Given {
     places: Vec<Place>,
     serial: Option<String>,
+    timeout: Option<Duration>,
     cut: Option<usize>,
     features: Option<Vec<u8>>,
     capacity: Option<usize>,
+    recursive: bool,
+    words: Vec<OsString>,
 }
 
 pub fn parsed(mut words: impl Iterator<Item = OsString>) -> Result<Request, String> {
@@ -70,74 +83,164 @@ pub fn parsed(mut words: impl Iterator<Item = OsString>) -> Result<Request, Stri
     while let Some(word) = words.next() {
         match word.as_bytes() {
             b"--help" | b"-h" => return Ok(Request::Help),
-            b"--server" => given.places.push(Place::Server { address: text(&mut words, "--server")?, serial: None }),
-            b"--unix" => given.places.push(Place::Unix(needed(&mut words, "--unix")?.into())),
-            b"--stdio" => given.places.push(Place::Stdio),
-            b"--exec" => given.places.push(Place::Exec(words.by_ref().take_while(|word| word != "--").collect())),
-            b"--panel" => given.places.push(Place::Panel { cut: None }),
-            b"--serial" => given.serial = Some(text(&mut words, "--serial")?),
-            b"--cut" => given.cut = Some(number(&mut words, "--cut")?),
-            b"--features" => given.features = Some(needed(&mut words, "--features")?.into_vec()),
-            b"--capacity" => given.capacity = Some(number(&mut words, "--capacity")?),
-            option if option.starts_with(b"-") => return Err(format!("no option {}", word.display())),
-            _ => {
-                let command = command(&word, &words.collect::<Vec<_>>())?;
-                return Ok(Request::Run(plan(given, command)?));
+            b"--version" => return Ok(Request::Version),
+            b"--" => given.words.extend(words.by_ref()),
+            b"-" => given.words.push(word),
+            option if option.starts_with(b"-") => given.option(&word, &mut words)?,
+            _ => given.words.push(word),
+        }
+    }
+    let command = given.command()?;
+    Ok(Request::Run(given.plan(command)?))
+}
+
+impl Given {
+    fn option(&mut self, option: &OsStr, words: &mut impl Iterator<Item = OsString>) -> Result<(), String> {
+        match option.as_bytes() {
+            b"--server" => {
+                let address: Result<Address, _> = text(words, "--server", "HOST:PORT")?.parse();
+                let address = address.map_err(|e| format!("--server {e}"))?;
+                self.places.push(Place::Server { address: Some(address), serial: None, timeout: None });
             }
+            b"--unix" => {
+                self.places.push(Place::Unix { path: needed(words, "--unix", "PATH")?.into(), timeout: None });
+            }
+            b"--stdio" => self.places.push(Place::Stdio),
+            b"--exec" => self.places.push(Place::Exec(program(words)?)),
+            b"--panel" => self.places.push(Place::Panel { cut: None }),
+            b"--serial" => self.serial = Some(text(words, "--serial", "S")?),
+            b"--timeout" => self.timeout = Some(seconds(words)?),
+            b"--cut" => self.cut = Some(number(words, "--cut")?),
+            b"--features" => self.features = Some(needed(words, "--features", "LIST")?.into_vec()),
+            b"--capacity" => self.capacity = Some(capacity(words)?),
+            b"--recursive" => self.recursive = true,
+            _ => return Err(format!("no option {}; behind -- a word may begin with -", option.display())),
+        }
+        Ok(())
+    }
+
+    fn command(&self) -> Result<Command, String> {
+        let Some((name, words)) = self.words.split_first() else {
+            return Err(format!("a command is wanted: {}", names()));
+        };
+        let bytes = |word: &OsString| word.as_bytes().to_vec();
+        match (name.as_bytes(), words) {
+            (b"stat", [path]) => Ok(Command::Stat(bytes(path))),
+            (b"ls", [path]) => Ok(Command::List(bytes(path))),
+            (b"pull", [path, file]) => Ok(Command::Pull { path: bytes(path), file: file.into() }),
+            (b"push", [file, path, octal @ ..]) if octal.len() < 2 => {
+                let mode = octal.first().map(|octal| mode(octal)).transpose()?;
+                Ok(Command::Push { file: file.into(), path: bytes(path), mode })
+            }
+            (b"archive", [folder, dir]) => {
+                Ok(Command::Archive(Order { folder: bytes(folder), dir: dir.into(), deep: self.recursive }))
+            }
+            (b"verify", [dir]) => Ok(Command::Verify(dir.into())),
+            _ => Err(match COMMANDS.iter().find(|(each, _)| name == *each) {
+                Some((name, wanted)) => format!("{name} wants {wanted}, and has {}", given(words)),
+                None => format!("no command {}: {} are there", name.display(), names()),
+            }),
         }
     }
-    Err("no command".into())
-}
 
-fn plan(given: Given, command: Command) -> Result<Plan, String> {
-    let mut places = given.places.into_iter();
-    let first = places.next().unwrap_or(Place::Server { address: "127.0.0.1:5037".into(), serial: None });
-    let place = match (first, given.serial, given.cut) {
-        _ if places.next().is_some() => return Err("more than one place for the panel".into()),
-        (Place::Server { address, .. }, serial, None) => Place::Server { address, serial },
-        (Place::Panel { .. }, None, cut) => Place::Panel { cut },
-        (Place::Exec(words), None, None) if words.is_empty() => return Err("--exec without a command".into()),
-        (place, None, None) => place,
-        (_, Some(_), _) => return Err("--serial goes with --server".into()),
-        (_, _, Some(_)) => return Err("--cut goes with --panel".into()),
-    };
-    Ok(Plan { place, features: given.features, capacity: given.capacity.unwrap_or(CAPACITY), command })
-}
-
-fn command(name: &OsStr, words: &[OsString]) -> Result<Command, String> {
-    let bytes = |word: &OsString| word.as_bytes().to_vec();
-    match (name.as_bytes(), words) {
-        (b"stat", [path]) => Ok(Command::Stat(bytes(path))),
-        (b"ls", [path]) => Ok(Command::List(bytes(path))),
-        (b"pull", [path, file]) => Ok(Command::Pull { path: bytes(path), file: file.into() }),
-        (b"push", [file, path]) => Ok(Command::Push { file: file.into(), path: bytes(path), mode: mode("644")? }),
-        (b"push", [file, path, octal]) => {
-            let mode = mode(octal.to_str().unwrap_or("?"))?;
-            Ok(Command::Push { file: file.into(), path: bytes(path), mode })
+    fn plan(self, command: Command) -> Result<Plan, String> {
+        let mut places = self.places.into_iter();
+        let default = || Place::Server { address: None, serial: None, timeout: None };
+        let mut place = places.next().unwrap_or_else(default);
+        if places.next().is_some() {
+            return Err("one of --server, --unix, --stdio, --exec and --panel is wanted, and more are given".into());
         }
-        (b"stat" | b"ls" | b"pull" | b"push", _) => Err(format!("wrong number of words after {}", name.display())),
-        _ => Err(format!("no command {}", name.display())),
+        let (mut serials, mut timeouts, mut cuts) = (None, None, None);
+        match &mut place {
+            Place::Server { serial, timeout, .. } => (serials, timeouts) = (Some(serial), Some(timeout)),
+            Place::Unix { timeout, .. } => timeouts = Some(timeout),
+            Place::Panel { cut } => cuts = Some(cut),
+            Place::Stdio if command.takes_stdio() => return Err("with --stdio a FILE can't be -".into()),
+            Place::Stdio | Place::Exec(_) => {}
+        }
+        if self.recursive && !matches!(command, Command::Archive(_)) {
+            return Err("--recursive goes with archive".into());
+        }
+        set(serials, self.serial, "--serial goes with --server")?;
+        set(timeouts, self.timeout, "--timeout goes with --server and --unix")?;
+        set(cuts, self.cut, "--cut goes with --panel")?;
+        Ok(Plan { place, features: self.features, capacity: self.capacity.unwrap_or(CAPACITY), command })
     }
+}
+
+/// An option's value to the place that takes it.
+fn set<T>(place: Option<&mut Option<T>>, given: Option<T>, why: &str) -> Result<(), String> {
+    match (place, given) {
+        (Some(place), given) => *place = given,
+        (None, Some(_)) => return Err(why.into()),
+        (None, None) => {}
+    }
+    Ok(())
+}
+
+fn names() -> String {
+    COMMANDS.map(|(name, _)| name).join(", ")
+}
+
+/// The words that are there.
+fn given(words: &[OsString]) -> String {
+    match words {
+        [] => "none".into(),
+        _ => words.join(OsStr::new(" ")).display().to_string(),
+    }
+}
+
+/// The words up to `--`.
+fn program(words: &mut impl Iterator<Item = OsString>) -> Result<Vec<OsString>, String> {
+    let mut program = Vec::new();
+    for word in words {
+        match word.as_bytes() {
+            b"--" if program.is_empty() => break,
+            b"--" => return Ok(program),
+            _ => program.push(word),
+        }
+    }
+    Err("--exec wants COMMAND [ARGS..] --, its words up to --".into())
 }
 
 /// An octal mode; permissions alone are a regular file's.
-fn mode(octal: &str) -> Result<FileMode, String> {
-    match u32::from_str_radix(octal, 8) {
-        Ok(permissions) if permissions <= 0o7777 => Ok(FileMode(0o100_000 | permissions)),
-        Ok(mode) => Ok(FileMode(mode)),
-        Err(_) => Err(format!("{octal} is not an octal mode")),
+fn mode(octal: &OsStr) -> Result<FileMode, String> {
+    match octal.to_str().map(|octal| u32::from_str_radix(octal, 8)) {
+        Some(Ok(permissions)) if permissions <= 0o7777 => Ok(FileMode(0o100_000 | permissions)),
+        Some(Ok(mode)) => Ok(FileMode(mode)),
+        _ => Err(format!("MODE is octal, such as 644, and not {}", octal.display())),
     }
 }
 
-fn needed(words: &mut impl Iterator<Item = OsString>, option: &str) -> Result<OsString, String> {
-    words.next().ok_or_else(|| format!("{option} without its value"))
+fn needed(words: &mut impl Iterator<Item = OsString>, option: &str, wanted: &str) -> Result<OsString, String> {
+    words.next().ok_or_else(|| format!("{option} wants {wanted}"))
 }
 
-fn text(words: &mut impl Iterator<Item = OsString>, option: &str) -> Result<String, String> {
-    needed(words, option)?.into_string().map_err(|word| format!("{option} {}: not text", word.display()))
+fn text(words: &mut impl Iterator<Item = OsString>, option: &str, wanted: &str) -> Result<String, String> {
+    let word = needed(words, option, wanted)?;
+    word.into_string().map_err(|word| format!("{option} wants {wanted} as text, and not {}", word.display()))
 }
 
 fn number(words: &mut impl Iterator<Item = OsString>, option: &str) -> Result<usize, String> {
-    let word = text(words, option)?;
-    word.parse().map_err(|_| format!("{option} {word}: not a number"))
+    let word = text(words, option, "a number")?;
+    word.parse().map_err(|_| format!("{option} wants a number, and not {word}"))
+}
+
+/// Two buffers of that length are made.
+fn capacity(words: &mut impl Iterator<Item = OsString>) -> Result<usize, String> {
+    const MOST: usize = 1 << 30;
+    match number(words, "--capacity")? {
+        length if length <= MOST => Ok(length),
+        length => Err(format!("--capacity wants a number up to {MOST}, and not {length}")),
+    }
+}
+
+/// A time from a millisecond on.
+fn seconds(words: &mut impl Iterator<Item = OsString>) -> Result<Duration, String> {
+    let word = text(words, "--timeout", "SECONDS")?;
+    let seconds = word.parse().ok().and_then(|seconds| Duration::try_from_secs_f64(seconds).ok());
+    match seconds {
+        Some(seconds) if seconds >= Duration::from_millis(1) => Ok(seconds),
+        _ => Err(format!("--timeout wants SECONDS, such as 5 or 0.5, and not {word}")),
+    }
 }

@@ -1,34 +1,44 @@
-//! The four commands.
+//! The commands.
 use crate::arguments::Command;
-use crate::progress::{visible, Watched};
-use crate::stop::{Stop, CANNOT_CREATE, IO, NO_INPUT};
-use std::fs::{self, File};
+use crate::peer::Peer;
+use crate::progress::Progress;
+use crate::say::{say, shown};
+use crate::stop::{Stop, NOT_THERE};
+use crate::target::Target;
+use crate::{check, pull, push};
 use std::io::{self, Write};
-use std::path::{Path, PathBuf};
-use std::time::SystemTime;
-use yuglasno::{Details, Error, FileMode, Link, Session, Shown};
+use yuglasno::{Details, Shown};
 
-type Panel = Session<Vec<u8>>;
-
-pub fn run(session: &mut Panel, link: &mut dyn Link, command: &Command, said: &mut dyn Write) -> Result<(), Stop> {
+/// Where a pull goes, before the panel is asked; none for standard output and for the other commands.
+pub fn target(command: &Command) -> Result<Option<Target>, Stop> {
     match command {
-        Command::Stat(path) => {
-            let details = session.details(link, path)?;
-            numbers(said, &details).map_err(|e| Stop::output(&e))
-        }
-        Command::List(path) => list(session, link, path, said),
-        Command::Pull { path, file } => {
-            let bytes = pull(session, link, path, file)?;
-            say(said, format_args!("{}: {bytes} bytes pulled to {}", Shown(path), file.display()))
-        }
-        Command::Push { file, path, mode } => {
-            let bytes = push(session, link, file, path, *mode)?;
-            say(said, format_args!("{}: {bytes} bytes pushed to {}", file.display(), Shown(path)))
-        }
+        Command::Pull { path, file } if !command.takes_stdio() => Target::of(file, path).map(Some),
+        _ => Ok(None),
     }
 }
 
-fn say(said: &mut dyn Write, text: std::fmt::Arguments<'_>) -> Result<(), Stop> {
+/// Does what the command says. `said` is where its lines go.
+pub fn run(peer: &mut Peer<'_>, command: &Command, target: Option<&Target>, said: &mut dyn Write) -> Result<(), Stop> {
+    match command {
+        Command::Stat(path) => {
+            let details = peer.details(path)?;
+            numbers(said, &details).map_err(|e| Stop::output(&e))
+        }
+        Command::List(path) => list(peer, path, said),
+        Command::Pull { path, .. } => pulled(peer, path, target, said),
+        Command::Push { file, path, mode } => {
+            let bytes = if command.takes_stdio() {
+                push::stdin(peer, path, *mode)?
+            } else {
+                push::file(peer, file, path, *mode)?
+            };
+            line(said, format_args!("{}: {bytes} bytes pushed to {}", shown(file), Shown(path)))
+        }
+        Command::Archive(_) | Command::Verify(_) => unreachable!("they open their own panel, or none"),
+    }
+}
+
+fn line(said: &mut dyn Write, text: std::fmt::Arguments<'_>) -> Result<(), Stop> {
     writeln!(said, "{text}").map_err(|e| Stop::output(&e))
 }
 
@@ -47,13 +57,19 @@ fn numbers(said: &mut dyn Write, details: &Details) -> io::Result<()> {
 }
 
 /// A line for each entry. The listing is read to its end even where the lines can't be written.
-fn list(session: &mut Panel, link: &mut dyn Link, path: &[u8], said: &mut dyn Write) -> Result<(), Stop> {
+fn list(peer: &mut Peer<'_>, path: &[u8], said: &mut dyn Write) -> Result<(), Stop> {
     let mut written = Ok(());
-    session.entries(link, path, |name, details| {
+    let mut entries = 0;
+    let listed = peer.session.entries(peer.link, path, |name, details| {
+        entries += 1;
         if written.is_ok() {
             written = entry(said, name, &details);
         }
-    })?;
+    });
+    listed.map_err(|e| Stop::from(e).about(format_args!("{}, after {entries} entries", Shown(path))))?;
+    if entries == 0 {
+        return Err(unlisted(peer, path)?);
+    }
     written.map_err(|e| Stop::output(&e))
 }
 
@@ -66,54 +82,46 @@ fn entry(said: &mut dyn Write, name: &[u8], details: &Details) -> io::Result<()>
     }
 }
 
-/// FILE gets its name only once it is whole and on disk.
-fn pull(session: &mut Panel, link: &mut dyn Link, path: &[u8], file: &Path) -> Result<u64, Stop> {
-    let total = if visible() { size_of(session, link, path)? } else { None };
-    let part = part_of(file);
-    let made = File::create(&part).map_err(|e| Stop::new(CANNOT_CREATE, part.display(), e))?;
-    let mut watched = Watched::new(made, total);
-    let pulled = session.pull(link, path, &mut watched).map_err(Stop::from);
-    let made = watched.ended();
-    let kept = pulled.and_then(|bytes| match made.sync_all().and_then(|()| fs::rename(&part, file)) {
-        Ok(()) => Ok(bytes),
-        Err(error) => Err(Stop::new(IO, file.display(), error)),
-    });
-    if kept.is_err() {
-        let _ = fs::remove_file(&part);
+/// A listing of nothing at all, not even `.`: why.
+pub fn unlisted(peer: &mut Peer<'_>, path: &[u8]) -> Result<Stop, Stop> {
+    let mode = peer.details(path)?.mode();
+    let why = if mode.is_folder() {
+        "a folder that the panel lists nothing of, not even `.`: it may not be read".into()
+    } else {
+        format!("it is no folder (mode {mode})")
+    };
+    Ok(Stop::new(NOT_THERE, Shown(path), why))
+}
+
+fn pulled(peer: &mut Peer<'_>, path: &[u8], target: Option<&Target>, said: &mut dyn Write) -> Result<(), Stop> {
+    let mut progress = Progress::of(None);
+    let Some(target) = target else {
+        let before = peer.details(path)?;
+        let mut out = io::stdout().lock();
+        pull::received(peer, path, before, &mut out, &mut progress, &"standard output")?;
+        out.flush().map_err(|e| Stop::output(&e))?;
+        drop(progress);
+        warn_of_link(path, &before);
+        return Ok(());
+    };
+    let stored = pull::to_file(peer, path, target, &mut progress)?;
+    drop(progress);
+    let file = shown(&target.file);
+    warn_of_link(path, &stored.details);
+    if !stored.timed && !check::is_link(&stored.details) {
+        let mtime = stored.details.mtime();
+        say(format_args!("{file}: its time is not the panel's: the file system can't keep {mtime}"));
     }
-    kept
+    line(said, format_args!("{}: {} bytes pulled to {file}", Shown(path), stored.bytes))
 }
 
-fn part_of(file: &Path) -> PathBuf {
-    let mut part = file.as_os_str().to_owned();
-    part.push(".part");
-    part.into()
-}
-
-/// A file's size for the progress; an errno is left for the pull itself to meet.
-fn size_of(session: &mut Panel, link: &mut dyn Link, path: &[u8]) -> Result<Option<u64>, Stop> {
-    match session.details(link, path) {
-        Ok(details) => Ok(Some(details.size())),
-        Err(Error::Errno(_)) => Ok(None),
-        Err(error) => Err(error.into()),
+/// What was not compared.
+fn warn_of_link(path: &[u8], details: &Details) {
+    if check::is_link(details) {
+        let why = "a symbolic link, of which v1 has only the link's own numbers";
+        say(format_args!(
+            "{}: {why}: the bytes that came were not compared with a size, and its time is not known",
+            Shown(path)
+        ));
     }
-}
-
-fn push(session: &mut Panel, link: &mut dyn Link, file: &Path, path: &[u8], mode: FileMode) -> Result<u64, Stop> {
-    let unread = |error| Stop::new(NO_INPUT, file.display(), error);
-    let opened = File::open(file).map_err(unread)?;
-    let about = opened.metadata().map_err(unread)?;
-    if about.is_dir() {
-        return Err(unread(io::ErrorKind::IsADirectory.into()));
-    }
-    let mtime = about.modified().map_or(0, seconds);
-    let mut watched = Watched::new(opened, Some(about.len()));
-    let pushed = session.push(link, path, mode, mtime, &mut watched).map_err(Stop::from);
-    watched.ended();
-    pushed
-}
-
-/// Unix seconds, as near as 32 bits come to them.
-fn seconds(time: SystemTime) -> u32 {
-    time.duration_since(SystemTime::UNIX_EPOCH).map_or(0, |since| u32::try_from(since.as_secs()).unwrap_or(u32::MAX))
 }

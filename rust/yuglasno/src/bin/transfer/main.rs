@@ -1,44 +1,76 @@
-//! Transfers files from and to a panel: stat, ls, pull, push. `transfer --help` says how.
-#![forbid(unsafe_code)]
+//! Transfers files from and to a panel: stat, ls, pull, push, archive. `transfer --help` says how.
+#![deny(unsafe_code)]
 
+mod archive;
 mod arguments;
+mod check;
 mod commands;
+mod help;
+mod keep;
+mod panel;
+mod peer;
 mod place;
 mod progress;
-mod server;
+mod pull;
+mod push;
+mod say;
+mod signals;
 mod stop;
+mod target;
 
-use arguments::{Plan, Request, USAGE};
+use arguments::{Command, Place, Plan, Request};
+use panel::Panel;
 use std::io::{self, Write};
 use std::process::ExitCode;
 use stop::Stop;
-use yuglasno::Session;
 
 fn main() -> ExitCode {
+    signals::taken_over();
     let done = match arguments::parsed(std::env::args_os().skip(1)) {
         Ok(Request::Run(plan)) => run(&plan),
-        Ok(Request::Help) => io::stdout().write_all(USAGE.as_bytes()).map_err(|e| Stop::output(&e)),
+        Ok(Request::Help) => printed(&help::text()),
+        Ok(Request::Version) => printed(concat!("transfer ", env!("CARGO_PKG_VERSION"), "\n")),
         Err(text) => Err(Stop::usage(&text)),
     };
     match done {
         Ok(()) => ExitCode::SUCCESS,
         Err(stop) => {
-            eprintln!("transfer: {}", stop.text);
+            say::say(format_args!("{}", stop.text));
             ExitCode::from(stop.status)
         }
     }
 }
 
-/// The command, then quit. The command's failure is told before that of quit.
+fn printed(text: &str) -> Result<(), Stop> {
+    let mut out = io::stdout();
+    out.write_all(text.as_bytes()).and_then(|()| out.flush()).map_err(|e| Stop::output(&e))
+}
+
 fn run(plan: &Plan) -> Result<(), Stop> {
-    let mut place = place::reached(plan)?;
-    let (rx, msg) = (vec![0; plan.capacity], vec![0; plan.capacity]);
-    let mut session = Session::open(&place.banner, rx, msg)?;
-    let out: Box<dyn Write> = if place.takes_stdout { Box::new(io::stderr()) } else { Box::new(io::stdout()) };
+    let lines_to_stderr = matches!(plan.place, Place::Stdio) || plan.command.takes_stdio();
+    let out: Box<dyn Write> = if lines_to_stderr { Box::new(io::stderr()) } else { Box::new(io::stdout()) };
     let mut said = io::BufWriter::new(out);
-    let done = commands::run(&mut session, &mut *place.link, &plan.command, &mut said);
-    let quit = session.quit(&mut *place.link).map_err(Stop::from);
-    place.leave();
+    let done = match &plan.command {
+        Command::Archive(order) => archive::run(plan, order, &mut said),
+        Command::Verify(dir) => archive::verify(dir, &mut said),
+        _ => with_a_panel(plan, &mut said),
+    };
     let shown = said.flush().map_err(|e| Stop::output(&e));
-    done.and(quit).and(shown)
+    done.and(shown)
+}
+
+/// The command, then quit. The command's failure is told before that of quit.
+fn with_a_panel(plan: &Plan, said: &mut dyn Write) -> Result<(), Stop> {
+    let target = commands::target(&plan.command)?;
+    let mut panel = Panel::opened(plan)?;
+    match commands::run(&mut panel.peer(), &plan.command, target.as_ref(), said) {
+        Err(stop) if stop.dropped => {
+            panel.leave();
+            Err(stop)
+        }
+        done => {
+            let quit = panel.quit();
+            done.and(quit)
+        }
+    }
 }

@@ -1,53 +1,59 @@
 //! The panel's place: a link to it, and its banner.
 use crate::arguments::{Place, Plan};
-use crate::server;
+use crate::say::say;
 use crate::stop::{Stop, UNAVAILABLE};
 use std::ffi::OsString;
 use std::io;
-use std::os::unix::net::UnixStream;
 use std::path::Path;
 use std::process::{Child, Command, Stdio};
+use std::thread;
+use std::time::{Duration, Instant};
+use yuglasno::adb::{Address, Channel, Server};
 use yuglasno::panel::Panel;
 use yuglasno::{Link, Pair};
 
 pub struct Reached {
     pub link: Box<dyn Link>,
     pub banner: Vec<u8>,
-    /// Whether standard output is the panel's.
-    pub takes_stdout: bool,
     child: Option<Child>,
 }
 
 impl Reached {
     fn new(link: impl Link + 'static, banner: Vec<u8>) -> Self {
-        Self { link: Box::new(link), banner, takes_stdout: false, child: None }
+        Self { link: Box::new(link), banner, child: None }
     }
 
-    /// Lets go of the panel; a program that was started for it is waited for.
+    /// Lets go of the panel; a program that was started for it is waited for, and left to itself where it does not end.
     pub fn leave(self) {
         drop(self.link);
-        if let Some(mut child) = self.child {
-            let _ = child.wait();
+        let Some(mut child) = self.child else { return };
+        let start = Instant::now();
+        while let Ok(None) = child.try_wait() {
+            if start.elapsed() > LAST_WAIT {
+                return say(format_args!(
+                    "the program of --exec still runs (process {}), and is left to itself",
+                    child.id()
+                ));
+            }
+            thread::sleep(Duration::from_millis(2));
         }
     }
 }
 
+/// How long a program has to end once its channel is closed.
+const LAST_WAIT: Duration = Duration::from_secs(5);
+
 pub fn reached(plan: &Plan) -> Result<Reached, Stop> {
     let given = || banner_of(plan.features.as_deref().unwrap_or_default());
     match &plan.place {
-        Place::Server { address, serial } => {
-            let serial = serial.as_deref();
-            let banner = match &plan.features {
-                Some(features) => banner_of(features),
-                None => banner_of(&server::features(address, serial)?),
-            };
-            Ok(Reached::new(server::sync(address, serial)?, banner))
+        Place::Server { address, serial, timeout } => {
+            let server = server(address.as_ref(), serial.as_deref(), *timeout)?;
+            let banner =
+                plan.features.as_deref().map_or_else(|| server.banner(), |features| Ok(banner_of(features)))?;
+            Ok(Reached::new(server.sync()?, banner))
         }
-        Place::Unix(path) => unix(path, given()),
-        Place::Stdio => {
-            let stdio = Pair::new(io::stdin(), io::stdout());
-            Ok(Reached { takes_stdout: true, ..Reached::new(stdio, given()) })
-        }
+        Place::Unix { path, timeout } => unix(path, *timeout, given()),
+        Place::Stdio => Ok(Reached::new(Pair::new(io::stdin(), io::stdout()), given())),
         Place::Exec(words) => exec(words, given()),
         Place::Panel { cut } => {
             let panel = Panel::with_jobs().cut(cut.unwrap_or(usize::MAX));
@@ -61,9 +67,22 @@ fn banner_of(features: &[u8]) -> Vec<u8> {
     [b"features=", features].concat()
 }
 
-fn unix(path: &Path, banner: Vec<u8>) -> Result<Reached, Stop> {
-    let stream = UnixStream::connect(path).map_err(|e| Stop::new(UNAVAILABLE, path.display(), e))?;
-    Ok(Reached::new(stream, banner))
+/// The server of the command line, or of the environment what that leaves open.
+fn server(address: Option<&Address>, serial: Option<&str>, timeout: Option<Duration>) -> Result<Server, Stop> {
+    let server = Server::at(address.cloned().map_or_else(Address::from_env, Ok)?);
+    let server = match serial {
+        Some(serial) => server.with_serial(serial),
+        None => server.with_serial_from_env()?,
+    };
+    Ok(match timeout {
+        Some(timeout) => server.with_timeout(timeout),
+        None => server,
+    })
+}
+
+fn unix(path: &Path, timeout: Option<Duration>, banner: Vec<u8>) -> Result<Reached, Stop> {
+    let channel = Channel::to_socket(path, timeout).map_err(|e| Stop::unreached(path.display(), &e))?;
+    Ok(Reached::new(channel, banner))
 }
 
 fn exec(words: &[OsString], banner: Vec<u8>) -> Result<Reached, Stop> {

@@ -1,69 +1,84 @@
-//! How far a transfer is, on a terminal: bytes of all bytes, at most ten times a second.
-use std::io::{self, IsTerminal, Read, Write};
+//! How far a transfer is, on a terminal: bytes of all bytes, or files of all files, at most ten times a second.
+use crate::check::size_of;
+use crate::pull::Seen;
+use crate::say::show;
+use std::io::{self, IsTerminal};
 use std::time::{Duration, Instant};
+use yuglasno::Details;
 
 const PAUSE: Duration = Duration::from_millis(100);
 
-/// A file whose bytes are counted as they are read or written.
-pub struct Watched<F> {
-    file: F,
-    bytes: u64,
-    total: Option<u64>,
+/// The terminal's last line, where standard error is a terminal. It is cleared in the end.
+pub struct Line {
     next: Option<Instant>,
     shown: bool,
 }
 
-/// Whether progress is shown at all.
-pub fn visible() -> bool {
-    io::stderr().is_terminal()
-}
-
-impl<F> Watched<F> {
-    pub fn new(file: F, total: Option<u64>) -> Self {
-        let next = visible().then(|| Instant::now() + PAUSE);
-        Self { file, bytes: 0, total, next, shown: false }
+impl Line {
+    pub fn new() -> Self {
+        Self { next: io::stderr().is_terminal().then(|| Instant::now() + PAUSE), shown: false }
     }
 
-    /// The file back, and the terminal's line clear.
-    pub fn ended(self) -> F {
-        if self.shown {
-            eprint!("\r\x1B[K");
-        }
-        self.file
-    }
-
-    fn counted(&mut self, count: usize) {
-        self.bytes += count as u64;
+    /// Shows the text, unless another was shown only just now.
+    pub fn show(&mut self, text: impl FnOnce() -> String) {
+        let Some(next) = self.next else { return };
         let now = Instant::now();
-        if self.next.is_some_and(|next| now >= next) {
-            self.next = Some(now + PAUSE);
-            self.shown = true;
-            match self.total {
-                Some(total) if total > 0 => {
-                    eprint!("\r{} of {} KiB, {} %\x1B[K", self.bytes >> 10, total >> 10, self.bytes * 100 / total);
-                }
-                _ => eprint!("\r{} KiB\x1B[K", self.bytes >> 10),
-            }
+        if now >= next {
+            (self.next, self.shown) = (Some(now + PAUSE), true);
+            show(format_args!("\r{}\x1B[K", text()));
+        }
+    }
+
+    pub fn clear(&mut self) {
+        if self.shown {
+            self.shown = false;
+            show(format_args!("\r\x1B[K"));
         }
     }
 }
 
-impl<F: Read> Read for Watched<F> {
-    fn read(&mut self, buffer: &mut [u8]) -> io::Result<usize> {
-        let count = self.file.read(buffer)?;
-        self.counted(count);
-        Ok(count)
+impl Drop for Line {
+    fn drop(&mut self) {
+        self.clear();
     }
 }
 
-impl<F: Write> Write for Watched<F> {
-    fn write(&mut self, bytes: &[u8]) -> io::Result<usize> {
-        let count = self.file.write(bytes)?;
-        self.counted(count);
-        Ok(count)
+/// A count of bytes.
+pub struct Progress {
+    bytes: u64,
+    total: Option<u64>,
+    line: Line,
+}
+
+impl Progress {
+    pub fn of(total: Option<u64>) -> Self {
+        Self { bytes: 0, total, line: Line::new() }
     }
 
-    fn flush(&mut self) -> io::Result<()> {
-        self.file.flush()
+    pub fn count(&mut self, bytes: usize) {
+        self.bytes += bytes as u64;
+        let (bytes, total) = (self.bytes, self.total);
+        self.line.show(|| far(bytes, total));
+    }
+}
+
+fn far(bytes: u64, total: Option<u64>) -> String {
+    let kib = bytes >> 10;
+    match total {
+        Some(total) if total > 0 => {
+            let percent = u128::from(bytes) * 100 / u128::from(total);
+            format!("{kib} of {} KiB, {percent} %", total >> 10)
+        }
+        _ => format!("{kib} KiB"),
+    }
+}
+
+impl Seen for Progress {
+    fn numbers(&mut self, before: &Details) {
+        self.total = size_of(before);
+    }
+
+    fn chunk(&mut self, bytes: &[u8]) {
+        self.count(bytes.len());
     }
 }

@@ -1,0 +1,13 @@
+-- The facts of `specs/Cases.antt` hold. Assumes nothing.
+use mathlib.Core.Path.{refl}
+use Rattle.protocol.specs.Refusal.{requestRefusal, pathRefusal, flagRefusal, featureRefusal, transferRefusal}
+use Rattle.protocol.specs.Fact.{Hold}
+use Rattle.protocol.specs.Flags.{refusedFlags, several, unknown, dryRun}
+use Rattle.boundary_misuse.specs.Cases.{cases, afterwards}
+
+pub cases-hold : Hold cases
+unfolding requestRefusal pathRefusal flagRefusal featureRefusal transferRefusal refusedFlags several unknown dryRun
+cases-hold = refl
+
+pub afterwards-hold : Hold afterwards
+afterwards-hold = refl

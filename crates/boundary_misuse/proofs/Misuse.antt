@@ -1,0 +1,215 @@
+-- The claim: from the opening on, event after event, the exported functions refuse by the table and by nothing else.
+-- Assumes nothing.
+use Prim.Native.Nat.{ℕ, _≤_, _<_, _^_}
+use mathlib.Core.Bool.{Bool, true, false, not}
+use mathlib.Core.List.{List, [], _∷_}
+use mathlib.Core.Option.{Option, some}
+use mathlib.Core.Path.{_≡_, refl, sym, _∙_, subst}
+use native.Mathlib.Omega.{arith}
+use borrow.Author.Tests.{le-ltb, ltb-false}
+use lib.Dec.{eqb, ltb}
+use lib.ListN.{length}
+use Rattle.protocol.specs.Answers as P
+use Rattle.protocol.specs.Answers.{Answer, refused}
+use Rattle.protocol.specs.Bytes.{Bytes, pick}
+use Rattle.protocol.specs.Calls.{v1, v2, Call, call, nextEntry, nextChunk}
+use Rattle.protocol.specs.Refusal.{orElse, refuse}
+use Rattle.protocol.specs.Features.{featuresOf}
+use Rattle.protocol.specs.Messages.{stat, sta2, list, lis2, recv, ask, rcv2, send, snd2, chunk, done, quit}
+use Rattle.record.specs.Narrow.{U32, U64}
+use Rattle.record.specs.Record.{stored, size}
+use Rattle.session.specs.declared.Answer.the-variants as A
+use Rattle.session.specs.declared.Reply.the-variants as R
+use Rattle.session.specs.declared.Session.{Session}
+use Rattle.session.specs.Calls.{fresh, openRefusal, misfit}
+use Rattle.session.specs.Core.{featuresFrom}
+use Rattle.session.specs.Host.{Show, told, Step, Spare, lentOf}
+use Rattle.session.specs.Shown.{paper}
+use Rattle.session.specs.State.{St, st, Out}
+use Rattle.session.proofs.Demand3.{features-listed}
+use Rattle.session.proofs.Turns.{Frame, frameOf}
+use Rattle.boundary.specs.Boundary.{callNumber, firstNumber, flagNumber, stepOf}
+use Rattle.boundary.specs.Crossing.{Crossed, turnedAway, back, OpenCrossed, crossOpen, crossStart, crossRead, crossWrote, crossFault}
+use Rattle.boundary.specs.Heard.{answerHeard, heard}
+use Rattle.boundary.specs.Told.{replyNumber, outSize}
+use Rattle.boundary.proofs.Carried.{image, loads, back-image, read-back}
+use Rattle.boundary.proofs.Heard.{heard-told}
+use Rattle.boundary.proofs.Reports.{NarrowRefusal, lets, by-number, by-feature}
+use Rattle.boundary.proofs.Steps.{Asked, idle, fine}
+use Rattle.boundary_misuse.specs.Misuse.{HostReport, hasRead, wrote, fault, Act, start, report, Event, WideAct, AllWide, crossedBy, Seen, opened, pending, openRefused, misfits, callOf, numbered, refusal}
+use Rattle.boundary_misuse.specs.Claim.{heardOf, Answers, seenAfter, follow, Every, Opens, MisuseClaim}
+use Rattle.boundary_misuse.proofs.Known.{Own, own-of, misfit-own, seenOf, Knows, knows, pending-is}
+use Rattle.boundary_misuse.proofs.Unchanged.{not-refused, event-kept}
+use Rattle.boundary_misuse.proofs.Table.{Comes, numbered-narrow, behind, behind-narrow, begins, calls, after, misplaced, later, later-narrow, reported, reports}
+
+-- ---- one event
+
+-- what is claimed of it, and that what is seen afterwards is what the session then is
+abbrev Holds : Seen → List ℕ → Event → Option Answer → Crossed → Type 0
+Holds v rec e r c = Answers r rec e c × Knows (follow r v e (heardOf c)) (c .rec)
+
+module _ (s : Session) (sh : Show) (own : Own s) (asked : Asked s sh) (lent rx msg out : List ℕ) where
+  abbrev v : Seen
+  v = seenOf (frameOf s) sh
+
+  abbrev here : St
+  here = st s rx msg
+
+  abbrev ev : Act → Event
+  ev x = record { act = x; lent = lent; rx = rx; msg = msg; out = out }
+
+  -- a slice that is too short for a reply
+  module _ (brief : ltb (length out) outSize ≡ true) where
+    away : (x : Act) → crossedBy (stored s) (ev x) ≡ turnedAway (stored s) rx msg out
+    unfolding crossStart crossRead crossWrote crossFault
+    away (start n a b) = rw brief
+    away (report (hasRead k)) = rw brief
+    away (report wrote) = rw brief
+    away (report (fault kind code)) = rw brief
+
+    three : (x : Act) → refusal v (ev x) ≡ some (refused 3)
+    three (start n a b) = rw brief
+    three (report r) = rw brief
+
+    short-holds : (x : Act) → Holds v (stored s) (ev x) (refusal v (ev x)) (crossedBy (stored s) (ev x))
+    unfolding heard answerHeard
+    short-holds x = rw (three x, away x) ((refl, refl, (refl, refl, refl)), knows s sh own asked)
+
+  module _ (room : outSize ≤ length out) (short : U64 (length lent)) (few : length msg < 2 ^ 63) (bytes : Bytes rx) where
+    -- the table's tests are the session's
+    fits-same : (x : Act) → misfits v (ev x) ≡ misfit s (length rx) (length msg)
+    fits-same x = rw (le-ltb (length out) outSize room, misfit-own s (length rx) (length msg) own)
+
+    -- a step that comes out by the table
+    module _ (x : Act) (φ : Frame) (o : Out) (after : (y : Show) → seenAfter v (ev x) x y ≡ seenOf φ y) where
+      comes-holds : (r : Option Answer) → NarrowRefusal r → Comes r φ here o → Holds v (stored s) (ev x) r (back (stored s) out o)
+      unfolding replyNumber paper
+      comes-holds r lets g =
+          let i : stepOf (back (stored s) out o) ≡ image o = back-image here out room o (fine s g) in (
+            not-refused (o .reply) (g .given),
+            subst (λ (y : Seen). Knows y (back (stored s) out o .rec)) (sym (after (heardOf (back (stored s) out o))))
+                (subst (λ (y : Step (List ℕ)). Knows (seenOf φ (y .show)) (y .x)) (sym i)
+                (subst (λ (ψ : Frame). Knows (seenOf ψ (image o .show)) (stored (o .st .ses))) (g .frame)
+                (knows (o .st .ses) (image o .show) (own-of (o .st) (g .inv)) (g .asked)))),
+          )
+      comes-holds r (by-number {n = n} h) g =
+          subst (λ (y : Out). Holds v (stored s) (ev x) r (back (stored s) out y)) (sym g)
+          ((refl, heard-told out room 0 0 (omega arith) (omega arith) rx msg (R.Told (A.Refused n)) h, (refl, refl, refl)), knows s sh own asked)
+      comes-holds r (by-feature {n = n} h) g =
+          subst (λ (y : Out). Holds v (stored s) (ev x) r (back (stored s) out y)) (sym g)
+          ((refl, heard-told out room 0 0 (omega arith) (omega arith) rx msg (R.Told (A.Missing n)) h, (refl, refl, refl)), knows s sh own asked)
+
+      holds : (c : Crossed) (r : Option Answer) → c ≡ back (stored s) out o → refusal v (ev x) ≡ r → NarrowRefusal r → Comes r φ here o
+          → Holds v (stored s) (ev x) (refusal v (ev x)) c
+      holds c r i t n g =
+          subst (Holds v (stored s) (ev x) (refusal v (ev x))) (sym i)
+          (subst (λ (y : Option Answer). Holds v (stored s) (ev x) y (back (stored s) out o)) (sym t) (comes-holds r n g))
+
+    -- a call
+    call-table : (n a b : ℕ) → refusal v (ev (start n a b)) ≡ behind s lent rx msg (numbered v (callOf n a b lent))
+    call-table n a b = rw (fits-same (start n a b), pending-is asked)
+
+    call-holds : (n a b : ℕ) → U32 a → U32 b
+        → Holds v (stored s) (ev (start n a b)) (refusal v (ev (start n a b))) (crossedBy (stored s) (ev (start n a b)))
+    unfolding crossStart
+    call-holds n a b p q =
+        holds (start n a b) (begins s lent rx msg) _ (λ y. refl) _ _ (loads here (own .narrow) out room _) (call-table n a b)
+        (behind-narrow s lent rx msg _ (numbered-narrow v (callOf n a b lent))) (calls s lent rx msg (own .narrow) short few bytes sh a b p q n)
+
+    -- a report
+    report-table : (r : HostReport) → refusal v (ev (report r)) ≡ later s lent rx msg (misplaced sh r)
+    report-table r = rw (fits-same (report r), pending-is asked)
+
+    report-crosses : (r : HostReport) → crossedBy (stored s) (ev (report r)) ≡ back (stored s) out (reported s lent rx msg r)
+    unfolding crossRead crossWrote crossFault
+    report-crosses (hasRead k) = loads here (own .narrow) out room _ ∙ read-back here out (length lent) k
+    report-crosses wrote = loads here (own .narrow) out room _
+    report-crosses (fault kind code) = loads here (own .narrow) out room _
+
+    event-holds : (x : Act) → WideAct x → Holds v (stored s) (ev x) (refusal v (ev x)) (crossedBy (stored s) (ev x))
+    event-holds (start n a b) (p, q) = call-holds n a b p q
+    event-holds (report r) w =
+        holds (report r) (after s sh) _ (λ y. refl) _ _ (report-crosses r) (report-table r)
+        (later-narrow s lent rx msg sh r) (reports s lent rx msg (own .narrow) short few bytes sh asked r w)
+
+  any-holds : (x : Act) → WideAct x → U64 (length lent) → length msg < 2 ^ 63 → Bytes rx → Holds v (stored s) (ev x) (refusal v (ev x)) (crossedBy (stored s) (ev x))
+  any-holds x w short few bytes = go (ltb (length out) outSize) refl
+    where
+      go : (b : Bool) → ltb (length out) outSize ≡ b → Holds v (stored s) (ev x) (refusal v (ev x)) (crossedBy (stored s) (ev x))
+      go true e = short-holds e x
+      go false e = event-holds (ltb-false _ _ e) short few bytes x w
+
+-- ---- every list of them
+
+every : (v : Seen) (rec : List ℕ) (es : List Event) → Knows v rec → AllWide es → Every v rec es
+every v rec [] k w = tt
+every v rec (e ∷ es) (knows s sh own asked) (w, ws) =
+    let (a, k) = any-holds s sh own asked (e .lent) (e .rx) (e .msg) (e .out) (e .act) (w .act) (omega (arith, w .lent)) (w .msg) (w .rx) in
+    (a, every _ _ es k ws)
+
+-- ---- from the opening on
+
+abbrev opens : (rec banner : List ℕ) (c m : ℕ) (a b d : Bool) → OpenCrossed
+opens rec banner c m a b d =
+    pick (ltb 0 (pick a 1 (pick b 2 0))) (record { rec = rec; number = pick a 1 (pick b 2 0) })
+    (pick d (record { rec = stored (fresh c m (featuresFrom (featuresOf banner))); number = 0 }) (record { rec = rec; number = 3 }))
+
+open-answers : (rec banner : List ℕ) (c m : ℕ) → Opens (openRefused rec c m) rec (crossOpen rec banner c m)
+unfolding crossOpen openRefusal
+open-answers rec banner c m = go (ltb c 8) (ltb m c) (eqb (length rec) size)
+  where
+    go : (a b d : Bool) → Opens (orElse (refuse a (refused 1)) (orElse (refuse b (refused 2)) (refuse (not d) (refused 3)))) rec (opens rec banner c m a b d)
+    go true b d = (refl, refl)
+    go false true d = (refl, refl)
+    go false false false = (refl, refl)
+    go false false true = refl
+
+module _ (rec banner : List ℕ) (c m : ℕ) (wide : m < 2 ^ 63) where
+  abbrev new : Session
+  new = fresh c m (featuresFrom (featuresOf banner))
+
+  own-new : 8 ≤ c → c ≤ m → Own new
+  own-new l r =
+      record {
+        narrow = record { capacity = omega arith; message = omega arith; head = omega arith; tail = omega arith; lent = omega arith; pending = tt };
+        fits = record { order = omega arith; inside = omega arith; rx = refl; least = l; aside = r; msg = refl };
+      }
+
+  opened-known : crossOpen rec banner c m .number ≡ 0 → Knows (opened banner c m) (crossOpen rec banner c m .rec)
+  unfolding crossOpen openRefusal
+  opened-known = go (ltb c 8) (ltb m c) (eqb (length rec) size) refl refl
+    where
+      go : (a b d : Bool) → ltb c 8 ≡ a → ltb m c ≡ b → opens rec banner c m a b d .number ≡ 0 → Knows (opened banner c m) (opens rec banner c m a b d .rec)
+      go true b d p q z = absurd (omega arith)
+      go false true d p q z = absurd (omega arith)
+      go false false false p q z = absurd (omega arith)
+      go false false true p q z =
+          subst (λ (fs : List Bool). Knows (record { capacity = c; message = m; features = fs; lent = 0; last = told P.done; ended = false }) (stored new))
+          (features-listed banner) (knows new (told P.done) (own-new (ltb-false _ _ p) (ltb-false _ _ q)) idle)
+
+-- ---- the claim
+
+call-numbers : (z : Spare) (q : Call) → callOf (callNumber q) (firstNumber z q) (flagNumber z q) (lentOf z q) ≡ some q
+call-numbers z (call (ask stat p)) = refl
+call-numbers z (call (ask sta2 p)) = refl
+call-numbers z (call (ask list p)) = refl
+call-numbers z (call (ask lis2 p)) = refl
+call-numbers z (call (ask recv p)) = refl
+call-numbers z (call (rcv2 p f)) = refl
+call-numbers z (call (send p m)) = refl
+call-numbers z (call (snd2 p m f)) = refl
+call-numbers z (call (chunk x)) = refl
+call-numbers z (call (done t)) = refl
+call-numbers z (call quit) = refl
+call-numbers z (nextEntry v1) = refl
+call-numbers z (nextEntry v2) = refl
+call-numbers z nextChunk = refl
+
+pub misuse : MisuseClaim
+misuse =
+    record {
+      calls = call-numbers;
+      opens = open-answers;
+      unchanged = λ rec b e w. event-kept rec b e w (e .act) (w .act);
+      every = λ rec banner c m wide z es w. every (opened banner c m) (crossOpen rec banner c m .rec) es (opened-known rec banner c m wide z) w;
+    }

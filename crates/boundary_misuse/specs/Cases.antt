@@ -1,0 +1,144 @@
+-- Facts on misuse: what is answered where more than one reason is there, by document 01's "Order: 1, 2, then 3, 6, 4, 5, 7, 8, 9, 10. For a
+-- report: 3, 6, 5, 11", and each reason by itself.
+-- Assumes nothing.
+use Prim.Native.Nat.{ℕ}
+use mathlib.Core.Bool.{Bool, true, false}
+use mathlib.Core.List.{List, [], _∷_, _++_, map}
+use mathlib.Core.Option.{Option, none, some}
+use lib.ListN.{replicate}
+use Rattle.protocol.specs.Answers as A
+use Rattle.protocol.specs.Answers.{Answer, refused, missing}
+use Rattle.protocol.specs.Bytes.{ascii}
+use Rattle.protocol.specs.Fact.{Fact}
+use Rattle.session.specs.Host.{Show, told, read, writeRx, writeLent, writeBytes, close}
+use Rattle.boundary_misuse.specs.Misuse.{Act, start, report, HostReport, hasRead, wrote, fault, Event, Seen, openRefused, refusal}
+use Rattle.boundary_misuse.specs.Claim.{seenAfter}
+
+-- a session opened with buffers of 16 and 20 bytes and no feature, whose last call was lent two bytes; what was last asked or told
+abbrev seen : Show → (ended : Bool) → Seen
+seen last ended = record { capacity = 16; message = 20; features = replicate 7 false; lent = 2; last = last; ended = ended }
+
+abbrev lending : Act → (lent : List ℕ) → (rx msg out : ℕ) → Event
+lending a lent rx msg out = record { act = a; lent = lent; rx = replicate rx 0; msg = replicate msg 0; out = replicate out 0 }
+
+-- with these two bytes and slices of these lengths
+abbrev row : Show → (ended : Bool) → Act → (lent : List ℕ) → (rx msg out : ℕ) → Option Answer → Fact (Option Answer)
+row last ended a lent rx msg out p = record { computed = refusal (seen last ended) (lending a lent rx msg out); paper = p }
+
+abbrev path : List ℕ
+path = ascii "/t"
+
+-- with the lengths of the opening
+abbrev fits : Show → (ended : Bool) → Act → Option Answer → Fact (Option Answer)
+fits last ended a p = row last ended a path 16 20 112 p
+
+abbrev idle : Show
+idle = told A.done
+
+-- what can be asked
+abbrev asks : List Show
+asks = read 3 5 ∷ writeRx 3 5 ∷ writeLent 0 2 ∷ writeBytes path ∷ close ∷ []
+
+-- the slices of other lengths: either buffer, and a reply's slice of 111
+abbrev misfit : Show → (ended : Bool) → Act → List (Fact (Option Answer))
+misfit last ended a =
+    row last ended a path 15 20 112 (some (refused 3))
+    ∷ row last ended a path 17 20 112 (some (refused 3))
+    ∷ row last ended a path 16 19 112 (some (refused 3))
+    ∷ row last ended a path 16 21 112 (some (refused 3))
+    ∷ row last ended a path 16 20 111 (some (refused 3))
+    ∷ []
+
+abbrev called : List (Fact (Option Answer))
+called =
+    fits idle false (start 1 0 0) none
+    ∷ row idle false (start 1 0 0) (ascii "/a/longer/path") 16 20 112 none
+    ∷ row idle false (start 1 0 0) path 16 20 200 none
+    -- 3 before 6, 4 and 5
+    ∷ misfit idle false (start 1 0 0)
+    ++ misfit idle true (start 0 0 0)
+    ++ misfit (read 3 5) false (start 0 0 0)
+    -- 6 before 4 and 5; 4 before 5, whatever is asked; 5 for a number that is no call's
+    ++ fits idle true (start 0 0 0) (some (refused 6))
+    ∷ fits (read 3 5) true (start 1 0 0) (some (refused 6))
+    ∷ map (λ s. fits s false (start 0 0 0) (some (refused 4))) asks
+    ++ map (λ s. fits s false (start 1 0 0) (some (refused 4))) asks
+    ++ map (λ n. fits idle false (start n 3 3) (some (refused 5))) (0 ∷ 15 ∷ 255 ∷ 257 ∷ [])
+    -- 5 before 8, 4 before 8; 8 before 9, 9 before 10; the flags are the second number, of 6 and 8
+    ++ row idle false (start 15 3 3) (0 ∷ []) 16 20 112 (some (refused 5))
+    ∷ row (read 3 5) false (start 1 3 3) (0 ∷ []) 16 20 112 (some (refused 4))
+    ∷ row idle false (start 6 3 3) (0 ∷ []) 16 20 112 (some (refused 8))
+    ∷ fits idle false (start 6 0 3) (some (refused 9))
+    ∷ fits idle false (start 8 0 3) (some (refused 9))
+    ∷ fits idle false (start 6 3 0) (some (missing 3))
+    ∷ fits idle false (start 8 3 0) (some (missing 3))
+    ∷ fits idle false (start 2 3 3) (some (missing 1))
+    ∷ fits idle false (start 4 3 3) (some (missing 2))
+    ∷ map (λ n. fits idle false (start n 3 3) none) (1 ∷ 3 ∷ 5 ∷ 7 ∷ 9 ∷ 10 ∷ 11 ∷ 12 ∷ 13 ∷ 14 ∷ [])
+
+abbrev reports : List HostReport
+reports = hasRead 1 ∷ wrote ∷ fault 0 0 ∷ fault 1 7 ∷ []
+
+-- a report, with a path of another length
+abbrev otherLent : Show → (ended : Bool) → HostReport → Option Answer → Fact (Option Answer)
+otherLent last ended r p = row last ended (report r) (ascii "/") 16 20 112 p
+
+abbrev reported : List (Fact (Option Answer))
+reported =
+    -- 3 before 6 and 5, of the buffers; of the path or data while a call is pending
+    misfit idle true (report wrote)
+    ++ misfit (read 3 5) false (report wrote)
+    ++ map (λ s. otherLent s false wrote (some (refused 3))) asks
+    ++ map (λ s. otherLent s false (hasRead 0) (some (refused 3))) asks
+    ++ map (λ r. otherLent idle false r (some (refused 5))) reports
+    -- 6 before 5; 5 before 11
+    ++ map (λ r. fits idle true (report r) (some (refused 6))) reports
+    ++ map (λ r. fits idle false (report r) (some (refused 5))) reports
+    ++ map (λ s. fits s false (report (hasRead 0)) (some (refused 5))) (writeRx 3 5 ∷ writeLent 0 2 ∷ writeBytes path ∷ close ∷ [])
+    ++ fits (read 3 5) false (report wrote) (some (refused 5))
+    -- 11 "a read of 0 bytes or beyond the window"
+    ∷ fits (read 3 5) false (report (hasRead 0)) (some (refused 11))
+    ∷ fits (read 3 5) false (report (hasRead 6)) (some (refused 11))
+    ∷ fits (read 3 5) false (report (hasRead 5)) none
+    ∷ fits (read 3 5) false (report (hasRead 1)) none
+    -- a write or the close is accepted, or any of them comes to a fault
+    ∷ map (λ s. fits s false (report wrote) none) (writeRx 3 5 ∷ writeLent 0 2 ∷ writeBytes path ∷ close ∷ [])
+    ++ map (λ s. fits s false (report (fault 0 0)) none) asks
+    ++ map (λ s. fits s false (report (fault 1 7)) none) asks
+
+-- "1 receive buffer under 8; 2 message buffer shorter than the receive buffer"; a record of another length than 192
+abbrev opens : (record-length rx msg : ℕ) → Option Answer → Fact (Option Answer)
+opens n rx msg p = record { computed = openRefused (replicate n 0) rx msg; paper = p }
+
+abbrev opening : List (Fact (Option Answer))
+opening =
+    opens 192 8 8 none
+    ∷ opens 192 8 9 none
+    ∷ opens 192 7 7 (some (refused 1))
+    ∷ opens 192 7 6 (some (refused 1))
+    ∷ opens 192 8 7 (some (refused 2))
+    ∷ opens 191 7 6 (some (refused 1))
+    ∷ opens 191 8 7 (some (refused 2))
+    ∷ opens 191 8 8 (some (refused 3))
+    ∷ opens 193 8 8 (some (refused 3))
+    ∷ []
+
+abbrev pub cases : List (Fact (Option Answer))
+cases = called ++ reported ++ opening
+
+-- what the host has seen afterwards: quit has ended once its close is reported, whatever the report; a call's lent length is its own
+abbrev after : Show → Act → Bool × ℕ → Fact (Bool × ℕ)
+after last a p =
+    let s = seenAfter (seen last false) (lending a (ascii "/a/b") 16 20 112) a idle in
+    record { computed = (s .ended, s .lent); paper = p }
+
+abbrev pub afterwards : List (Fact (Bool × ℕ))
+afterwards =
+    after close (report wrote) (true, 2)
+    ∷ after close (report (fault 0 0)) (true, 2)
+    ∷ after close (report (fault 1 7)) (true, 2)
+    ∷ after (writeBytes path) (report wrote) (false, 2)
+    ∷ after (writeRx 3 5) (report wrote) (false, 2)
+    ∷ after (read 3 5) (report (hasRead 5)) (false, 2)
+    ∷ after idle (start 11 0 0) (false, 4)
+    ∷ []

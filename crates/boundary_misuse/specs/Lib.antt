@@ -1,0 +1,3 @@
+pub mod Misuse
+pub mod Claim
+pub mod Cases

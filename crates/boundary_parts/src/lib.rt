@@ -1,0 +1,1 @@
+// No code: whose bounds a reply's part keeps is said of the exported functions' definitions.

@@ -1,0 +1,350 @@
+-- Every theorem that is promised, with its whole type: the front page of what is proved. docs/PROMISES.md says which paragraph each is for.
+-- Assumes nothing.
+use Prim.Native.Nat.{ℕ, _+_, _≤_, _<_}
+use mathlib.Core.Bool.{true, false}
+use mathlib.Core.List.{List, [], _∷_, _++_, map}
+use mathlib.Core.Logic.{_⊎_}
+use mathlib.Core.Option.{none, some}
+use mathlib.Core.Path.{_≡_}
+use lib.IntN.{pos, negsuc}
+use lib.ListN.{length, getD, take, drop}
+use Rattle.protocol.specs.Answers as A
+use Rattle.protocol.specs.Answers.{End}
+use Rattle.protocol.specs.Banners as BannerFacts
+use Rattle.protocol.specs.Bytes.{Bytes, ascii, le, bytesOf, signed, put}
+use Rattle.protocol.specs.Calls.{Call, messages}
+use Rattle.protocol.specs.Refusal.{Setting, refusal}
+use Rattle.protocol.specs.Decimal.{decimal, canonical}
+use Rattle.protocol.specs.Fact.{Hold}
+use Rattle.protocol.specs.Features.{featuresOf}
+use Rattle.protocol.specs.Flags.{refusedFlags}
+use Rattle.protocol.specs.Headers.{Accepted, Heads}
+use Rattle.protocol.specs.Ids.{Id, Dialect, Sound, named, published}
+use Rattle.protocol.specs.Limits.{Limits}
+use Rattle.protocol.specs.Losses as LossFacts
+use Rattle.protocol.specs.Messages.{Request, chunk, snd2, joined, bytesOfRequest, pieces, HostWrites}
+use Rattle.protocol.specs.Numbers as NumberFacts
+use Rattle.protocol.specs.Reader.{Config, plainAnswers, plainWrites}
+use Rattle.protocol.specs.Received as ReceiveFacts
+use Rattle.protocol.specs.Records.{idAt, argAt, dentAt, dent2At}
+use Rattle.protocol.specs.Refusals.{Row, rows, settingAt}
+use Rattle.protocol.specs.Replies as ReplyFacts
+use Rattle.protocol.specs.Requests.{more, refused, request, readRequest}
+use Rattle.protocol.specs.Trials.{Trial, trials}
+use Rattle.protocol.specs.Written as WriteFacts
+use Rattle.protocol.proofs.Banners as Banners
+use Rattle.protocol.proofs.Decimal as Decimal
+use Rattle.protocol.proofs.Flags as Flags
+use Rattle.protocol.proofs.Ids as Ids
+use Rattle.protocol.proofs.Limits as LimitLaws
+use Rattle.protocol.proofs.Losses as Losses
+use Rattle.protocol.proofs.Messages as Messages
+use Rattle.protocol.proofs.Numbers as Numbers
+use Rattle.protocol.proofs.Received as Received
+use Rattle.protocol.proofs.Records as Records
+use Rattle.protocol.proofs.Refusals as Refusals
+use Rattle.protocol.proofs.Replies as Replies
+use Rattle.protocol.proofs.Requests as Requests
+use Rattle.protocol.specs.Unrefused as Unrefused
+use Rattle.protocol.proofs.Unrefused as Writing
+use Rattle.protocol.proofs.Trials as Trials
+use Rattle.protocol.proofs.Written as Written
+use Rattle.protocol_readers.specs.Wider.{widen, Unstopped, Like, unreadAt}
+use Rattle.protocol_readers.proofs.Wider as Wider
+use Rattle.protocol_readers.specs.Compared.{Compared}
+use Rattle.protocol_readers.proofs.Compared as Comparing
+use Rattle.recv_buf.specs.RecvBuf.{heldCount, heldBytes, taken, filled, compacted, holding}
+use Rattle.recv_buf.specs.declared.RecvBuf.{RecvBuf}
+use Rattle.recv_buf.proofs.Laws as Buffer
+use Rattle.request.specs.Meaning.{meant}
+use Rattle.request.specs.declared.Request as Code
+use Rattle.request.specs.declared.Request.the-variants as Q
+use Rattle.request.proofs.Letters as Letters
+use Rattle.record.specs.Narrow.{U64, Narrow}
+use Rattle.record.specs.Record.{stored, loaded}
+use Rattle.record.proofs.Stored as Stored
+use Rattle.request_reader.specs.Answers as ReadFacts
+use Rattle.request_reader.proofs.Answers as Reading
+use Rattle.session.specs.Core.{showOf, coreSystem}
+use Rattle.session.specs.Demand3.{Claim}
+use Rattle.session.specs.EveryHost.{EveryHost}
+use Rattle.session.specs.Places as PlaceFacts
+use Rattle.session.specs.Examples.{Examples}
+use Rattle.session.specs.Scripted as LogFacts
+use Rattle.session.specs.declared.Reply.{Reply}
+use Rattle.session.specs.declared.Session.{Session}
+use Rattle.session.proofs.Demand3 as Core
+use Rattle.session.proofs.Places as Places
+use Rattle.session.proofs.Examples as Logs
+use Rattle.session.proofs.Scripted as Scripted
+use Rattle.boundary.specs.Boundary.{boundary}
+use Rattle.boundary.specs.Crossings as CrossFacts
+use Rattle.boundary.specs.Heard.{heard}
+use Rattle.boundary.specs.Told.{replyNumber, replyBytes, outSize}
+use Rattle.boundary.proofs.Crossings as Crossings
+use Rattle.boundary.proofs.Demand3 as Boundary
+use Rattle.boundary.proofs.Heard as Heard
+use Rattle.boundary.proofs.Narrow.{NarrowReply}
+use Rattle.boundary_parts.specs.Bounds.{PartsInside}
+use Rattle.boundary_parts.proofs.Bounds as Bounds
+use Rattle.boundary_misuse.specs.Cases as CaseFacts
+use Rattle.boundary_misuse.specs.Claim as Table
+use Rattle.boundary_misuse.proofs.Cases as Cases
+use Rattle.boundary_misuse.proofs.Misuse as Misuse
+
+-- ---- the exported functions
+
+-- demand 3, sentence by sentence (session/specs/Demand3)
+pub demand-3 : Claim boundary
+demand-3 = Boundary.demand-3
+
+-- any host, also one whose reads, writes and close come to faults (session/specs/EveryHost, Faithful)
+pub every-host : EveryHost boundary
+every-host = Boundary.every-host
+
+-- what is misplaced is refused by the table, and nothing else is (misuse/specs/Misuse)
+pub misuse : Table.MisuseClaim
+misuse = Misuse.misuse
+
+-- no reply names a part outside its slice, whoever wrote the record (bounds/specs/Bounds)
+pub parts-inside : PartsInside
+parts-inside = Bounds.parts-inside
+
+-- what the host hears of a reply, in any slice that holds one, is what the reply says
+pub heard-told : (out : List ℕ) → outSize ≤ length out → (c l : ℕ) → U64 c → U64 l → (rx msg : List ℕ) (r : Reply) → NarrowReply c l r
+    → heard (replyNumber r) (put out 0 (replyBytes r)) rx msg ≡ showOf rx msg r
+heard-told = Heard.heard-told
+
+-- a session that was stored in the record is loaded again
+pub loaded-stored : (s : Session) → Narrow s → loaded (stored s) ≡ some s
+loaded-stored = Stored.loaded-stored
+
+-- ---- the session's own steps
+
+pub core-claim : Claim coreSystem
+core-claim = Core.core-claim
+
+pub core-hosts : EveryHost coreSystem
+core-hosts = Core.core-hosts
+
+-- ---- two plain readers, with capacities c ≤ d
+
+pub before : (d : ℕ) (e e′ : End) (x : List ℕ) (g : Config) (qs : List Call) (u : List ℕ) → 8 ≤ g .capacity → g .capacity ≤ d
+    → (k : ℕ) → k < length qs → Unstopped (plainAnswers g e qs u) k
+    → Like (g .capacity) (argAt (unreadAt g e qs u k)) (getD (plainAnswers g e qs u) k A.done) (getD (plainAnswers (widen d g) e′ qs (u ++ x)) k A.done)
+before = Wider.before
+
+pub uncut : (d : ℕ) (e e′ : End) (x : List ℕ) (g : Config) (qs : List Call) (u : List ℕ) → 8 ≤ g .capacity → g .capacity ≤ d
+    → (k : ℕ) → k < length qs → Unstopped (plainAnswers g e qs u) k → argAt (unreadAt g e qs u k) ≤ g .capacity
+    → getD (plainAnswers g e qs u) k A.done ≡ getD (plainAnswers (widen d g) e′ qs (u ++ x)) k A.done
+uncut = Wider.uncut
+
+pub writes-same : (g : Config) (d : ℕ) (qs : List Call) → plainWrites (widen d g) qs ≡ plainWrites g qs
+writes-same = Wider.writes-same
+
+pub answers-length : (g : Config) (e : End) (qs : List Call) (u : List ℕ) → length (plainAnswers g e qs u) ≡ length qs
+answers-length = Wider.answers-length
+
+-- ---- the panel's request reader, for any ids that are apart
+
+-- "What the host writes is read back as meant", with any bytes behind it
+pub read-back : (d : Dialect) → Sound d → d .longest + 11 < 0x1_0000_0000 → (q : Request) → HostWrites d q → (rest : List ℕ)
+    → readRequest d (bytesOfRequest d q ++ rest) ≡ request q (length (bytesOfRequest d q))
+read-back = Requests.read-back
+
+-- a call that is not refused writes only messages that are read back
+pub unrefused-writes : (g : Setting) (q : Call) → refusal g q ≡ none → Unrefused.Narrow q → Unrefused.AllWritten (g .dialect) (messages q)
+unrefused-writes = Writing.unrefused-writes
+
+-- "what is accepted is what the host would write, but for DATA of length 0"
+pub accepted : (d : Dialect) → Sound d → (s : List ℕ) → Bytes s → (q : Request) (n : ℕ) → readRequest d s ≡ request q n → Accepted d s q n
+accepted = Requests.accepted
+
+pub empty-data : (d : Dialect) → Sound d → d .longest + 11 < 0x1_0000_0000 → (rest : List ℕ)
+    → readRequest d (bytesOfRequest d (chunk []) ++ rest) ≡ request (chunk []) (length (bytesOfRequest d (chunk [])))
+empty-data = Requests.empty-data
+
+-- "more" and 18, in these cases
+pub more-short : (d : Dialect) (s : List ℕ) → length s < 8 → readRequest d s ≡ more
+more-short = Requests.more-short
+
+pub refused-header : (d : Dialect) → Sound d → (s : List ℕ) → 8 ≤ length s
+    → ((i : Id) (size : ℕ) → idAt s ≡ d .bytes i → Heads d (argAt s) i size → ⊥) → readRequest d s ≡ refused
+refused-header = Requests.refused-header
+
+pub more-until-whole : (d : Dialect) → Sound d → (s : List ℕ) → 8 ≤ length s → (i : Id) (size : ℕ) → idAt s ≡ d .bytes i → Heads d (argAt s) i size
+    → length s < size → readRequest d s ≡ more
+more-until-whole = Requests.more-until-whole
+
+pub whole-answered : (d : Dialect) → Sound d → (s : List ℕ) → 8 ≤ length s → (i : Id) (size : ℕ) → idAt s ≡ d .bytes i → Heads d (argAt s) i size
+    → Bytes s → size ≤ length s → (readRequest d s ≡ refused) ⊎ ((q : Request) × (readRequest d s ≡ request q size))
+whole-answered = Requests.whole-answered
+
+-- ---- the tables: what the definitions compute, beside what the documents say
+
+pub trials-hold : map (λ (t : Trial). t .computed) trials ≡ map (λ (t : Trial). t .paper) trials
+trials-hold = Trials.trials-hold
+
+pub refusals-hold : map (λ (r : Row). refusal (settingAt r) (r .made)) rows ≡ map (λ (r : Row). r .paper) rows
+refusals-hold = Refusals.refusals-hold
+
+-- the plain reader: replies of every kind; lost pushes, failed writes, quit; lists of calls
+pub replies-hold : Hold ReplyFacts.replies
+replies-hold = Replies.replies-hold
+
+pub losses-hold : Hold LossFacts.losses
+losses-hold = Losses.losses-hold
+
+pub lists-hold : Hold LossFacts.lists × Hold LossFacts.goesOn
+lists-hold = Losses.lists-hold
+
+-- what each call writes, and in which pieces
+pub writing-holds : Hold WriteFacts.writing
+writing-holds = Written.writing-holds
+
+pub going-holds : Hold WriteFacts.going
+going-holds = Written.going-holds
+
+-- banners and their features
+pub banners-hold : map (λ (r : BannerFacts.Row). featuresOf (r .banner)) BannerFacts.banners ≡ map BannerFacts.paper BannerFacts.banners
+banners-hold = Banners.banners-hold
+
+-- the panel's request reader, decimals, the ids
+pub receiving-holds : Hold ReceiveFacts.receiving
+receiving-holds = Received.receiving-holds
+
+pub decimals-hold : Hold ReceiveFacts.decimals
+decimals-hold = Received.decimals-hold
+
+pub ids-hold : Hold ReceiveFacts.spelt × Hold ReceiveFacts.found
+ids-hold = Received.ids-hold
+
+pub readings-hold : Hold ReadFacts.numbers × Hold ReadFacts.meanings
+readings-hold = Reading.answers-hold
+
+-- the answers' numbers, flag words, both limits
+pub told-holds : Hold NumberFacts.told
+told-holds = Numbers.told-holds
+
+pub words-hold : Hold NumberFacts.words
+words-hold = Numbers.words-hold
+
+pub limits : Limits
+limits = LimitLaws.limits
+
+-- when a call compacts, where its windows lie, how its pieces go out, what it closes, which text it keeps; a code's answer on paper
+pub moments-hold : Hold PlaceFacts.moments
+moments-hold = Places.moments-hold
+
+pub places-hold : Hold PlaceFacts.places
+places-hold = Places.places-hold
+
+pub pieces-hold : Hold PlaceFacts.pieces × Hold PlaceFacts.closes
+pieces-hold = Places.pieces-hold
+
+pub texts-hold : Hold PlaceFacts.texts
+texts-hold = Places.texts-hold
+
+pub answers-hold : Hold PlaceFacts.answers
+answers-hold = Places.answers-hold
+
+-- what the host logs of a session; logs that the claim of every host takes, and logs with one thing wrong; two answers compared
+pub logs-hold : Hold LogFacts.logs
+logs-hold = Scripted.logs-hold
+
+pub examples : Examples
+examples = Logs.examples
+
+pub compared : Compared
+compared = Comparing.compared
+
+-- what crosses to the host, and what is misplaced
+pub passed-hold : Hold CrossFacts.passed × Hold CrossFacts.sizes
+passed-hold = Crossings.passed-hold
+
+pub heard-hold : Hold CrossFacts.heardFacts
+heard-hold = Crossings.heard-hold
+
+pub cases-hold : Hold CaseFacts.cases
+cases-hold = Cases.cases-hold
+
+pub afterwards-hold : Hold CaseFacts.afterwards
+afterwards-hold = Cases.afterwards-hold
+
+-- bytes and the numbers that they spell; records field by field; flag words
+pub little-endian : (map (λ r. le (r .0)) Records.spellings ≡ map (λ r. r .1) Records.spellings)
+    × (map (λ r. bytesOf (length (r .0)) (r .1)) Records.spellings ≡ map (λ r. r .0) Records.spellings)
+    × (map (λ r. signed (le (r .0))) Records.signs ≡ map (λ r. r .1) Records.signs)
+little-endian = Records.little-endian
+
+pub layouts : (dentAt (ascii "DENT" ++ bytesOf 4 33188 ++ bytesOf 4 1998 ++ bytesOf 4 5 ++ bytesOf 4 3 ++ ascii "T98")
+    ≡ record { stat = record { mode = 33188; size = 1998; mtime = 5 }; namelen = 3 })
+    × (dent2At (ascii "DNT2" ++ bytesOf 4 2 ++ bytesOf 8 0xfd01 ++ bytesOf 8 0x1_0000_0007
+    ++ bytesOf 4 33188 ++ bytesOf 4 1 ++ bytesOf 4 1000 ++ bytesOf 4 1004 ++ bytesOf 8 5_000_000_000
+    ++ bytesOf 8 0xffff_ffff_ffff_ffff ++ bytesOf 8 1_700_000_000 ++ bytesOf 8 1_700_000_001
+    ++ bytesOf 4 3 ++ ascii "T98")
+    ≡ record {
+      stat = record {
+        error = 2;
+        dev = 0xfd01;
+        ino = 0x1_0000_0007;
+        mode = 33188;
+        nlink = 1;
+        uid = 1000;
+        gid = 1004;
+        size = 5_000_000_000;
+        atime = negsuc 0;
+        mtime = pos 1_700_000_000;
+        ctime = pos 1_700_000_001;
+      };
+      namelen = 3;
+    })
+layouts = Records.layouts
+
+pub refusals : map (λ w. (refusedFlags false (w .0), refusedFlags true (w .0))) Flags.words ≡ map (λ w. w .1) Flags.words
+refusals = Flags.refusals
+
+-- the letters that each request's message begins with
+pub letters-first : map (λ (q : Code.Request). take 4 (bytesOfRequest published (meant q []))) Letters.requests
+    ≡ ascii "STAT" ∷ ascii "STA2" ∷ ascii "LIST" ∷ ascii "LIS2" ∷ ascii "RECV" ∷ ascii "RCV2" ∷ ascii "SEND" ∷ ascii "SND2" ∷ ascii "DATA" ∷ ascii "DONE" ∷ ascii "QUIT" ∷ []
+letters-first = Letters.letters-first
+
+pub adjacent-words : meant (Q.Snd2 (record { 0 = 1 }) (record { 0 = 2 })) [] ≡ snd2 [] 1 2
+adjacent-words = Letters.adjacent-words
+
+-- ---- laws of the definitions
+
+-- a number and its digits
+pub canonical-decimal : (n : ℕ) → n < 0x1_0000_0000 → canonical (decimal n) ≡ some n
+canonical-decimal = Decimal.canonical-decimal
+
+pub decimal-canonical : (t : List ℕ) (n : ℕ) → canonical t ≡ some n → (t ≡ decimal n) × (n < 0x1_0000_0000)
+decimal-canonical = Decimal.decimal-canonical
+
+-- the fifteen ids have four letters each and are apart; each is found by its own
+pub published-sound : Sound published
+published-sound = Ids.published-sound
+
+pub named-own : (d : Dialect) → Sound d → (i : Id) → named d (d .bytes i) ≡ some i
+named-own = Ids.named-own
+
+-- whatever the cut, the same bytes go out
+pub pieces-joined : (d : Dialect) (free : ℕ) (q : Request) → joined (pieces d free q) ≡ bytesOfRequest d q
+pieces-joined = Messages.pieces-joined
+
+-- what take, fill, compaction and "to hold n bytes" do to the held bytes
+pub taken-drops : (b : List ℕ) (c : RecvBuf) → Buffer.Sound b c → (n : ℕ) → n ≤ heldCount c → heldBytes b (taken c n) ≡ drop n (heldBytes b c)
+taken-drops = Buffer.taken-drops
+
+pub filled-appends : (b : List ℕ) (c : RecvBuf) → Buffer.Sound b c → (n : ℕ) → c .tail + n ≤ length b
+    → heldBytes b (filled c n (length b)) ≡ heldBytes b c ++ take n (drop (c .tail) b)
+filled-appends = Buffer.filled-appends
+
+pub compacted-keeps : (b : List ℕ) (c : RecvBuf) → Buffer.Sound b c → heldBytes (compacted b c .0) (compacted b c .1) ≡ heldBytes b c
+compacted-keeps = Buffer.compacted-keeps
+
+pub compacted-behind : (b : List ℕ) (c : RecvBuf) → Buffer.Sound b c → drop (heldCount c) (compacted b c .0) ≡ drop (heldCount c) b
+compacted-behind = Buffer.compacted-behind
+
+pub holding-meant : (b : List ℕ) (c : RecvBuf) (n : ℕ) → Buffer.Sound b c → Buffer.Meant b c n (holding b c n .0) (holding b c n .1)
+holding-meant = Buffer.holding-meant

@@ -1,0 +1,143 @@
+-- A host, a banner, buffers and a list of calls, and what is logged of them: a stat on a receive buffer of 16 bytes, a byte a read, and quit.
+-- And another host, whose ninth read comes to an error: the stat is answered 13, and a second one goes on with the bytes that were left.
+-- Assumes nothing.
+use Prim.Native.Nat.{ℕ}
+use mathlib.Core.List.{List, [], _∷_, _++_, map}
+use mathlib.Core.Option.{some, none}
+use lib.Dec.{eqb}
+use lib.ListN.{length, replicate}
+use Rattle.protocol.specs.Answers as A
+use Rattle.protocol.specs.Answers.{Answer, closed, error}
+use Rattle.protocol.specs.Bytes.{ascii, pick}
+use Rattle.protocol.specs.Calls.{Call, call}
+use Rattle.protocol.specs.Messages.{ask, stat, quit}
+use Rattle.protocol.specs.Reader.{accepted}
+use Rattle.protocol.specs.Trials.{statReply}
+use Rattle.session.specs.Host.{Host, Ask, Entry}
+
+abbrev pub banner : List ℕ
+banner = ascii "device::features=stat_v2,ls_v2"
+
+abbrev pub calls : List Call
+calls = call (ask stat (ascii "/a")) ∷ call quit ∷ []
+
+-- what stood in a buffer, or in the record
+abbrev pub dirty : ℕ → List ℕ
+dirty n = replicate n 0xAA
+
+-- A byte a read; the rest of each window is overwritten. The slice for the reply has three bytes more than it needs; quit lends three bytes
+-- and passes two numbers.
+abbrev pub host : Host
+host =
+    record {
+      count = λ i. 1;
+      junk = λ i j. 0xEE;
+      fails = λ i. none;
+      writes = λ i. accepted;
+      close = accepted;
+      end = closed;
+      spare = λ w. record { out = dirty 115; lent = 1 ∷ 2 ∷ 3 ∷ []; first = 5; second = 7; kind = 41; code = 9 };
+    }
+
+abbrev pub stumbling : Host
+stumbling =
+    record {
+      count = host .count;
+      junk = host .junk;
+      fails = λ i. pick (eqb i 8) (some (error 5)) none;
+      writes = host .writes;
+      close = host .close;
+      end = host .end;
+      spare = host .spare;
+    }
+
+abbrev pub twice : List Call
+twice = call (ask stat (ascii "/a")) ∷ call (ask stat (ascii "/a")) ∷ []
+
+-- of a read: the bytes to come and those held, where the window starts and how long it is
+pub record Row : Type 0 where
+  pub left : ℕ
+  pub held : ℕ
+  pub at : ℕ
+  pub len : ℕ
+
+abbrev pub row : (left held at len : ℕ) → Row
+row l h i n = record { left = l; held = h; at = i; len = n }
+
+-- of a call: its answer, the reads that it asked, the last first, the pieces that it wrote and where in the receive buffer those began that
+-- lay there, the pieces written before each close, what it left unread, and tail in the end
+pub record Lines : Type 0 where
+  pub answer : Answer
+  pub reads : List Row
+  pub pieces : List (List ℕ)
+  pub composed : List ℕ
+  pub closes : List (List (List ℕ))
+  pub unread : List ℕ
+  pub ends : ℕ
+
+abbrev pub rowOf : Ask → Row
+rowOf a = row (length (a .rest)) (length (a .holds)) (a .at) (a .len)
+
+abbrev pub linesOf : Entry → Lines
+linesOf e =
+    record {
+      answer = e .answer;
+      reads = map rowOf (e .asks);
+      pieces = e .pieces;
+      composed = e .composed;
+      closes = e .closes;
+      unread = e .unread;
+      ends = e .ends;
+    }
+
+-- "stat: write; next(STAT); need 16; drop it": its message is composed at the front; sixteen reads, each into all that is free; mode, size
+-- and time at 4, 8 and 12. "quit: write; close."
+abbrev pub logged : List Lines
+logged =
+    record {
+      answer = A.stat (record { mode = 33188; size = 1998; mtime = 5 });
+      reads = row 1 15 15 1 ∷ row 2 14 14 2 ∷ row 3 13 13 3 ∷ row 4 12 12 4 ∷ row 5 11 11 5 ∷ row 6 10 10 6 ∷ row 7 9 9 7 ∷ row 8 8 8 8
+          ∷ row 9 7 7 9 ∷ row 10 6 6 10 ∷ row 11 5 5 11 ∷ row 12 4 4 12 ∷ row 13 3 3 13 ∷ row 14 2 2 14 ∷ row 15 1 1 15 ∷ row 16 0 0 16
+          ∷ [];
+      pieces = (ascii "STAT" ++ 2 ∷ 0 ∷ 0 ∷ 0 ∷ ascii "/a") ∷ [];
+      composed = 0 ∷ [];
+      closes = [];
+      unread = [];
+      ends = 16;
+    }
+    ∷ record {
+      answer = A.done;
+      reads = [];
+      pieces = (ascii "QUIT" ++ 0 ∷ 0 ∷ 0 ∷ 0 ∷ []) ∷ [];
+      composed = [];
+      closes = ((ascii "QUIT" ++ 0 ∷ 0 ∷ 0 ∷ 0 ∷ []) ∷ []) ∷ [];
+      unread = [];
+      ends = 16;
+    }
+    ∷ []
+
+-- Nothing is consumed by an error (13, with its code). Eight bytes are held then, and the second message does not fit beside them: header
+-- and path go out each by itself.
+abbrev pub stumbled : List Lines
+stumbled =
+    record {
+      answer = A.broken (error 5);
+      reads = row 8 8 8 8 ∷ row 9 7 7 9 ∷ row 10 6 6 10 ∷ row 11 5 5 11 ∷ row 12 4 4 12 ∷ row 13 3 3 13 ∷ row 14 2 2 14 ∷ row 15 1 1 15
+          ∷ row 16 0 0 16
+          ∷ [];
+      pieces = (ascii "STAT" ++ 2 ∷ 0 ∷ 0 ∷ 0 ∷ ascii "/a") ∷ [];
+      composed = 0 ∷ [];
+      closes = [];
+      unread = statReply;
+      ends = 8;
+    }
+    ∷ record {
+      answer = A.stat (record { mode = 33188; size = 1998; mtime = 5 });
+      reads = row 1 15 15 1 ∷ row 2 14 14 2 ∷ row 3 13 13 3 ∷ row 4 12 12 4 ∷ row 5 11 11 5 ∷ row 6 10 10 6 ∷ row 7 9 9 7 ∷ row 8 8 8 8 ∷ [];
+      pieces = (ascii "STAT" ++ 2 ∷ 0 ∷ 0 ∷ 0 ∷ []) ∷ ascii "/a" ∷ [];
+      composed = [];
+      closes = [];
+      unread = [];
+      ends = 16;
+    }
+    ∷ []

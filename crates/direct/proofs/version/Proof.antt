@@ -1,7 +1,0 @@
--- `direct::version` meets its contract. Assumes nothing.
-use borrow.Author.Tests.{eq-eqb, ne-eqb}
-use Rattle.direct.proofs.version.Statement.{statement}
-use Rattle.direct.proofs.version.Tie as tie
-
-pub version-spec : {M : Type 1} → statement M
-version-spec = tie.close (tie.spec (λ c. simp (eq-eqb _ _ (c .if1 .taken))) (λ c. simp (ne-eqb _ _ (c .if1 .left))))

@@ -1,0 +1,58 @@
+-- The facts of `specs/Limits.antt` hold. Assumes nothing.
+use Prim.Native.Nat.{ℕ, zero, suc, _+_, _-_, _≤_, _<_}
+use mathlib.Core.Bool.{Bool, false}
+use mathlib.Core.List.{List, [], _∷_, _++_}
+use mathlib.Core.Option.{none, some}
+use mathlib.Core.Path.{_≡_, refl, sym, ap, _∙_}
+use native.Mathlib.Omega.{arith}
+use borrow.Author.Tests.{lt-ltb, le-ltb}
+use lib.ListN.{length, take, drop, length-append, length-drop, drop-of-length-le}
+use lib.Seq.{take-at, drop-at, take-all}
+use Rattle.protocol.specs.Answers.{refused}
+use Rattle.protocol.specs.Bytes.{has}
+use Rattle.protocol.specs.Calls.{call, messages, cutBy, cut, chunks}
+use Rattle.protocol.specs.Refusal.{pathRefusal}
+use Rattle.protocol.specs.Ids.{published}
+use Rattle.protocol.specs.Limits.{Limits}
+use Rattle.protocol.specs.Messages.{chunk, dataMost}
+
+-- more steps than bytes come to the same parts
+cut-enough : (f g : ℕ) (x : List ℕ) → length x ≤ f → length x ≤ g → cutBy f x ≡ cutBy g x
+cut-enough zero zero x h k = refl
+cut-enough zero (suc g) [] h k = refl
+cut-enough zero (suc g) (b ∷ x) h k = absurd (omega arith)
+cut-enough (suc f) zero [] h k = refl
+cut-enough (suc f) zero (b ∷ x) h k = absurd (omega arith)
+cut-enough (suc f) (suc g) [] h k = refl
+cut-enough (suc f) (suc g) (b ∷ x) h k =
+    let l = length-drop dataMost (b ∷ x) in
+    ap (λ ps. take dataMost (b ∷ x) ∷ ps) (cut-enough f g (drop dataMost (b ∷ x)) (omega arith) (omega arith))
+
+cut-step : (x : List ℕ) → 0 < length x → cut x ≡ take dataMost x ∷ cut (drop dataMost x)
+unfolding cut
+cut-step [] h = absurd (omega arith)
+cut-step (b ∷ x) h =
+    let l = length-drop dataMost (b ∷ x) in
+    ap (λ ps. take dataMost (b ∷ x) ∷ ps) (cut-enough (length x) (length (drop dataMost (b ∷ x))) (drop dataMost (b ∷ x)) (omega arith) (omega arith))
+
+cut-none : cut [] ≡ []
+unfolding cut
+cut-none = refl
+
+cut-one : (x : List ℕ) → 0 < length x → length x ≤ 65536 → cut x ≡ x ∷ []
+cut-one x n l = cut-step x n ∙ rw (take-all dataMost x l, drop-of-length-le x l, cut-none)
+
+cut-more : (x rest : List ℕ) → length x ≡ 65536 → cut (x ++ rest) ≡ x ∷ cut rest
+cut-more x rest l =
+    cut-step (x ++ rest) (omega (arith, length-append x rest)) ∙ rw (take-at x rest dataMost l, drop-at x rest dataMost l)
+
+pub limits : Limits
+unfolding pathRefusal messages
+limits =
+    record {
+      path-fits = λ p l z. rw (le-ltb _ _ l, z);
+      path-over = λ p l. rw (lt-ltb _ _ l);
+      data-none = ap chunks cut-none;
+      data-one = λ x n l. ap chunks (cut-one x n l);
+      data-more = λ x rest l. ap chunks (cut-more x rest l);
+    }

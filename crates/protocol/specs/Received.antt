@@ -1,0 +1,140 @@
+-- Facts on the panel's request reader, on bytes that AOSP's service was sent (captures.jsonl, by the label given) or that document 01 names:
+-- "Under 8 bytes: more. Then 18 if the id is none of the host's eleven .., if arg exceeds 65,536 (65,547 for SEND), or QUIT's arg isn't 0;
+-- DONE's arg is free. Then more until the message is whole. Then 18 for a path with NUL or over 65,536, an inner id that differs, flags the
+-- host would refuse with 9, a SEND with no comma or whose text after the last comma isn't canonical decimal of a u32."
+-- Assumes nothing.
+use Prim.Native.Nat.{ℕ, _-_}
+use mathlib.Core.List.{List, [], _∷_, _++_, map}
+use mathlib.Core.Option.{Option, none, some}
+use lib.ListN.{length, take}
+use Rattle.protocol.specs.Bytes.{ascii}
+use Rattle.protocol.specs.Decimal.{canonical}
+use Rattle.protocol.specs.Fact.{Fact}
+use Rattle.protocol.specs.Ids.{Id, all, letters, named, published}
+use Rattle.protocol.specs.Messages.{ask, stat, sta2, list, lis2, recv, Request, rcv2, send, snd2, chunk, done, quit}
+use Rattle.protocol.specs.Replies.{counting}
+use Rattle.protocol.specs.Requests.{Read, more, refused, request, readRequest}
+
+abbrev row : List ℕ → Read → Fact Read
+row s r = record { computed = readRequest published s; paper = r }
+
+-- a message: read with bytes behind it, and more while any of it is missing, at 8 bytes, one byte short and under 8
+abbrev message : List ℕ → Request → (size : ℕ) → List (Fact Read)
+message s q n =
+    row (s ++ ascii "QUIT") (request q n)
+    ∷ row s (request q n)
+    ∷ map (λ k. row (take k s) more) (0 ∷ 4 ∷ 7 ∷ (n - 1) ∷ [])
+
+abbrev messages : List (Fact Read)
+messages =
+    -- STAT-file, STA2-file, LIST-dir, LIS2-dir, RECV-file, STAT-empty-path
+    message (ascii "STAT" ++ 12 ∷ 0 ∷ 0 ∷ 0 ∷ [] ++ ascii "/t/hello.txt") (ask stat (ascii "/t/hello.txt")) 20
+    ++ message (ascii "STA2" ++ 12 ∷ 0 ∷ 0 ∷ 0 ∷ [] ++ ascii "/t/hello.txt") (ask sta2 (ascii "/t/hello.txt")) 20
+    ++ message (ascii "LIST" ++ 2 ∷ 0 ∷ 0 ∷ 0 ∷ [] ++ ascii "/t") (ask list (ascii "/t")) 10
+    ++ message (ascii "LIS2" ++ 2 ∷ 0 ∷ 0 ∷ 0 ∷ [] ++ ascii "/t") (ask lis2 (ascii "/t")) 10
+    ++ message (ascii "RECV" ++ 12 ∷ 0 ∷ 0 ∷ 0 ∷ [] ++ ascii "/t/hello.txt") (ask recv (ascii "/t/hello.txt")) 20
+    ++ message (ascii "STAT" ++ 0 ∷ 0 ∷ 0 ∷ 0 ∷ []) (ask stat []) 8
+    -- RCV2-zstd-text, SND2-lz4, SND2-dry-run; four distinct bytes of mode
+    ++ message (ascii "RCV2" ++ 7 ∷ 0 ∷ 0 ∷ 0 ∷ [] ++ ascii "/t/textRCV2" ++ 4 ∷ 0 ∷ 0 ∷ 0 ∷ []) (rcv2 (ascii "/t/text") 4) 23
+    ++ message (ascii "SND2" ++ 6 ∷ 0 ∷ 0 ∷ 0 ∷ [] ++ ascii "/w/lz4SND2" ++ 0xa4 ∷ 0x81 ∷ 0 ∷ 0 ∷ 2 ∷ 0 ∷ 0 ∷ 0 ∷ []) (snd2 (ascii "/w/lz4") 33188 2) 26
+    ++ message (ascii "SND2" ++ 6 ∷ 0 ∷ 0 ∷ 0 ∷ [] ++ ascii "/w/drySND2" ++ 1 ∷ 2 ∷ 3 ∷ 0xf4 ∷ 0 ∷ 0 ∷ 0 ∷ 0x80 ∷ [])
+    (snd2 (ascii "/w/dry") 0xf403_0201 0x8000_0000) 26
+    -- SEND-file, SEND-comma-in-path; the longest mode; no path
+    ++ message (ascii "SEND" ++ 10 ∷ 0 ∷ 0 ∷ 0 ∷ [] ++ ascii "/w/a,33188") (send (ascii "/w/a") 33188) 18
+    ++ message (ascii "SEND" ++ 12 ∷ 0 ∷ 0 ∷ 0 ∷ [] ++ ascii "/w/d,e,33188") (send (ascii "/w/d,e") 33188) 20
+    ++ message (ascii "SEND" ++ 13 ∷ 0 ∷ 0 ∷ 0 ∷ [] ++ ascii "/w,4294967295") (send (ascii "/w") 4294967295) 21
+    ++ message (ascii "SEND" ++ 2 ∷ 0 ∷ 0 ∷ 0 ∷ [] ++ ascii ",0") (send [] 0) 10
+    -- SEND-file's data and DONE, SEND-empty-data, QUIT; any time
+    ++ message (ascii "DATA" ++ 9 ∷ 0 ∷ 0 ∷ 0 ∷ [] ++ ascii "contents" ++ 10 ∷ []) (chunk (ascii "contents" ++ 10 ∷ [])) 17
+    ++ message (ascii "DATA" ++ 2 ∷ 0 ∷ 0 ∷ 0 ∷ 0 ∷ 255 ∷ []) (chunk (0 ∷ 255 ∷ [])) 10
+    ++ message (ascii "DATA" ++ 0 ∷ 0 ∷ 0 ∷ 0 ∷ []) (chunk []) 8
+    ++ message (ascii "DONE" ++ 0 ∷ 0x10 ∷ 0x5e ∷ 0x5f ∷ []) (done 1600000000) 8
+    ++ message (ascii "DONE" ++ 0xff ∷ 0xff ∷ 0xff ∷ 0xff ∷ []) (done 0xffff_ffff) 8
+    ++ message (ascii "QUIT" ++ 0 ∷ 0 ∷ 0 ∷ 0 ∷ []) quit 8
+
+-- both limits, on headers alone: the arg by its bytes, and whether it is 18
+abbrev headers : (arg : List ℕ) → Read → (ids : List (List ℕ)) → List (Fact Read)
+headers arg r ids = map (λ i. row (i ++ arg) r) ids
+
+abbrev paths : List (List ℕ)
+paths = ascii "STAT" ∷ ascii "STA2" ∷ ascii "LIST" ∷ ascii "LIS2" ∷ ascii "RECV" ∷ ascii "RCV2" ∷ ascii "SND2" ∷ []
+
+abbrev heads : List (Fact Read)
+heads =
+    -- 65,536, 65,537, 65,547, 65,548; STAT-path-4GiB
+    headers (0 ∷ 0 ∷ 1 ∷ 0 ∷ []) more (ascii "DATA" ∷ ascii "SEND" ∷ paths)
+    ++ headers (1 ∷ 0 ∷ 1 ∷ 0 ∷ []) refused (ascii "DATA" ∷ paths)
+    ++ headers (0x0b ∷ 0 ∷ 1 ∷ 0 ∷ []) more (ascii "SEND" ∷ [])
+    ++ headers (0x0c ∷ 0 ∷ 1 ∷ 0 ∷ []) refused (ascii "SEND" ∷ [])
+    ++ headers (0xff ∷ 0xff ∷ 0xff ∷ 0xff ∷ []) refused (ascii "DATA" ∷ ascii "SEND" ∷ ascii "QUIT" ∷ paths)
+    ++ headers (0 ∷ 0 ∷ 0 ∷ 1 ∷ []) refused (ascii "DATA" ∷ ascii "SEND" ∷ ascii "QUIT" ∷ paths)
+    -- QUIT-with-path
+    ++ headers (3 ∷ 0 ∷ 0 ∷ 0 ∷ []) refused (ascii "QUIT" ∷ [])
+    -- none of the host's eleven: the panel's four; LST2-symlink, unknown-id, SEND-bad-data-id; another case
+    ++ headers (0 ∷ 0 ∷ 0 ∷ 0 ∷ []) refused (ascii "OKAY" ∷ ascii "FAIL" ∷ ascii "DENT" ∷ ascii "DNT2" ∷ ascii "LST2" ∷ ascii "STAX" ∷ ascii "DATB" ∷ ascii "stat" ∷ [])
+
+-- whole messages that are 18
+abbrev turned : List (Fact Read)
+turned =
+    map (λ s. row s refused)
+    -- a path with NUL: STAT-path-nul, and the others
+    ((ascii "STAT" ++ 17 ∷ 0 ∷ 0 ∷ 0 ∷ [] ++ ascii "/t/hello.txt" ++ 0 ∷ ascii "rest")
+    ∷ (ascii "LIS2" ++ 1 ∷ 0 ∷ 0 ∷ 0 ∷ 0 ∷ [])
+    ∷ (ascii "RCV2" ++ 1 ∷ 0 ∷ 0 ∷ 0 ∷ 0 ∷ ascii "RCV2" ++ 0 ∷ 0 ∷ 0 ∷ 0 ∷ [])
+    ∷ (ascii "SND2" ++ 1 ∷ 0 ∷ 0 ∷ 0 ∷ 0 ∷ ascii "SND2" ++ 0 ∷ 0 ∷ 0 ∷ 0 ∷ 0 ∷ 0 ∷ 0 ∷ 0 ∷ [])
+    ∷ (ascii "SEND" ++ 3 ∷ 0 ∷ 0 ∷ 0 ∷ 0 ∷ ascii ",0")
+    -- an inner id that differs: SND2-setup-id-ignored, and one of the other's
+    ∷ (ascii "SND2" ++ 5 ∷ 0 ∷ 0 ∷ 0 ∷ [] ++ ascii "/w/s3ABCD" ++ 0xa4 ∷ 0x81 ∷ 0 ∷ 0 ∷ 0 ∷ 0 ∷ 0 ∷ 0 ∷ [])
+    ∷ (ascii "RCV2" ++ 1 ∷ 0 ∷ 0 ∷ 0 ∷ [] ++ ascii "/SND2" ++ 0 ∷ 0 ∷ 0 ∷ 0 ∷ [])
+    ∷ (ascii "RCV2" ++ 1 ∷ 0 ∷ 0 ∷ 0 ∷ [] ++ ascii "/RECV" ++ 0 ∷ 0 ∷ 0 ∷ 0 ∷ [])
+    -- flags: RCV2-flags-5, RCV2-dry-run, SND2-flags-3, SND2-flags-8
+    ∷ (ascii "RCV2" ++ 1 ∷ 0 ∷ 0 ∷ 0 ∷ [] ++ ascii "/RCV2" ++ 5 ∷ 0 ∷ 0 ∷ 0 ∷ [])
+    ∷ (ascii "RCV2" ++ 1 ∷ 0 ∷ 0 ∷ 0 ∷ [] ++ ascii "/RCV2" ++ 0 ∷ 0 ∷ 0 ∷ 0x80 ∷ [])
+    ∷ (ascii "SND2" ++ 4 ∷ 0 ∷ 0 ∷ 0 ∷ [] ++ ascii "/w/aSND2" ++ 0xa4 ∷ 0x81 ∷ 0 ∷ 0 ∷ 3 ∷ 0 ∷ 0 ∷ 0 ∷ [])
+    ∷ (ascii "SND2" ++ 4 ∷ 0 ∷ 0 ∷ 0 ∷ [] ++ ascii "/w/aSND2" ++ 0xa4 ∷ 0x81 ∷ 0 ∷ 0 ∷ 8 ∷ 0 ∷ 0 ∷ 0 ∷ [])
+    -- SEND-no-comma, SEND-octal-mode, SEND-mode-no-number; no mode, one too large
+    ∷ (ascii "SEND" ++ 4 ∷ 0 ∷ 0 ∷ 0 ∷ [] ++ ascii "/w/a")
+    ∷ (ascii "SEND" ++ 9 ∷ 0 ∷ 0 ∷ 0 ∷ [] ++ ascii "/w/b,0755")
+    ∷ (ascii "SEND" ++ 7 ∷ 0 ∷ 0 ∷ 0 ∷ [] ++ ascii "/w/c,rw")
+    ∷ (ascii "SEND" ++ 3 ∷ 0 ∷ 0 ∷ 0 ∷ [] ++ ascii "/w,")
+    ∷ (ascii "SEND" ++ 13 ∷ 0 ∷ 0 ∷ 0 ∷ [] ++ ascii "/w,4294967296")
+    ∷ [])
+
+abbrev pub receiving : List (Fact Read)
+receiving = messages ++ heads ++ turned
+
+-- ---- decimal numbers: "A u32 as digits, no leading zero; 0 is "0""
+
+abbrev decimalRow : List ℕ → Option ℕ → Fact (Option ℕ)
+decimalRow t n = record { computed = canonical t; paper = n }
+
+abbrev pub decimals : List (Fact (Option ℕ))
+decimals =
+    decimalRow (ascii "0") (some 0)
+    ∷ decimalRow (ascii "7") (some 7)
+    ∷ decimalRow (ascii "10") (some 10)
+    ∷ decimalRow (ascii "1234567890") (some 1234567890)
+    ∷ decimalRow (ascii "4294967295") (some 0xffff_ffff)
+    ∷ map (λ t. decimalRow t none)
+    (ascii "4294967296" ∷ ascii "10000000000" ∷ [] ∷ ascii "00" ∷ ascii "01" ∷ ascii "+1" ∷ ascii "-1" ∷ ascii "1 " ∷ ascii "1/" ∷ ascii "1:" ∷ ascii "/" ∷ ascii ":"
+    ∷ ascii "0x1" ∷ ascii "1a"
+    ∷ [])
+
+-- ---- "Fifteen four-byte ids": by their bytes (MKID of file_sync_protocol.h), in the order of 000's `SyncId::ALL`; each is found by them
+
+abbrev fifteen : List (List ℕ)
+fifteen =
+    (0x53 ∷ 0x54 ∷ 0x41 ∷ 0x54 ∷ []) ∷ (0x53 ∷ 0x54 ∷ 0x41 ∷ 0x32 ∷ []) ∷ (0x4c ∷ 0x49 ∷ 0x53 ∷ 0x54 ∷ []) ∷ (0x4c ∷ 0x49 ∷ 0x53 ∷ 0x32 ∷ [])
+    ∷ (0x53 ∷ 0x45 ∷ 0x4e ∷ 0x44 ∷ []) ∷ (0x53 ∷ 0x4e ∷ 0x44 ∷ 0x32 ∷ []) ∷ (0x52 ∷ 0x45 ∷ 0x43 ∷ 0x56 ∷ []) ∷ (0x52 ∷ 0x43 ∷ 0x56 ∷ 0x32 ∷ [])
+    ∷ (0x44 ∷ 0x41 ∷ 0x54 ∷ 0x41 ∷ []) ∷ (0x44 ∷ 0x4f ∷ 0x4e ∷ 0x45 ∷ []) ∷ (0x4f ∷ 0x4b ∷ 0x41 ∷ 0x59 ∷ []) ∷ (0x46 ∷ 0x41 ∷ 0x49 ∷ 0x4c ∷ [])
+    ∷ (0x44 ∷ 0x45 ∷ 0x4e ∷ 0x54 ∷ []) ∷ (0x44 ∷ 0x4e ∷ 0x54 ∷ 0x32 ∷ []) ∷ (0x51 ∷ 0x55 ∷ 0x49 ∷ 0x54 ∷ [])
+    ∷ []
+
+abbrev pub spelt : List (Fact (List (List ℕ)))
+spelt = record { computed = map letters all; paper = fifteen } ∷ []
+
+abbrev pub found : List (Fact (List (Option Id)))
+found =
+    record { computed = map (named published) fifteen; paper = map some all }
+    ∷ record { computed = map (named published) (ascii "LST2" ∷ ascii "STAX" ∷ ascii "stat" ∷ ascii "STA" ∷ []); paper = none ∷ none ∷ none ∷ none ∷ [] }
+    ∷ []

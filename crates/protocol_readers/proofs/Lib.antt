@@ -1,0 +1,4 @@
+pub mod Needs
+pub mod Fails
+pub mod Wider
+pub mod Compared

@@ -1,0 +1,3 @@
+pub mod Short
+pub mod Wider
+pub mod Compared

@@ -1,0 +1,35 @@
+-- Laws of `protocol`'s refusals that the proofs here and callers cite. Assumes nothing.
+use mathlib.Core.Bool.{Bool, false, _&&_, not}
+use mathlib.Core.List.{List, _∷_}
+use mathlib.Core.Option.{Option, none, some}
+use mathlib.Core.Path.{_≡_, refl}
+use Prim.Native.Nat.{ℕ, zero, suc, _<_}
+use native.Mathlib.Nat.{not-suc-le-zero}
+use lib.ListN.{getD}
+use Rattle.protocol.specs.Answers.{Answer, missing}
+use Rattle.protocol.specs.Refusal.{orElse, refuse, featureRefusal, requestRefusal}
+use Rattle.protocol.specs.Ids.{Dialect}
+use Rattle.protocol.specs.Messages.{Request, ask, rcv2, send, snd2, chunk, done, quit}
+
+pub or-none : (a : Option Answer) → orElse a none ≡ a
+or-none none = refl
+or-none (some x) = refl
+
+-- feature n, looked up in a list that has the first at 1
+pub feature-at : (fs : List Bool) (needed : Bool) (n : ℕ) → 0 < n
+    → featureRefusal fs needed n ≡ refuse (needed && not (getD (false ∷ fs) n false)) (missing n)
+unfolding featureRefusal
+feature-at fs needed zero h = absurd (not-suc-le-zero h)
+feature-at fs needed (suc n) h = refl
+
+-- 7 to 10 do not depend on whether the session has ended
+pub ended-alike : (d : Dialect) (fs : List Bool) (e f : Bool) (q : Request)
+    → requestRefusal (record { dialect = d; features = fs; ended = e }) q ≡ requestRefusal (record { dialect = d; features = fs; ended = f }) q
+unfolding requestRefusal
+ended-alike d fs e f (ask i p) = refl
+ended-alike d fs e f (rcv2 p w) = refl
+ended-alike d fs e f (send p m) = refl
+ended-alike d fs e f (snd2 p m w) = refl
+ended-alike d fs e f (chunk x) = refl
+ended-alike d fs e f (done t) = refl
+ended-alike d fs e f quit = refl

@@ -1,0 +1,212 @@
+/* The five functions of libexports.a: the host's side of ADB's sync: service (stat, list, pull, push), without I/O, a heap or a clock.
+ *
+ * A session lives in a record and two buffers of the host's. The host starts a call, does what the library asks (read, write, close),
+ * reports what came of it, and so on until the call is answered. examples/pull.c is a whole program.
+ *
+ * What is lent
+ *   rec     the session: YUGLASNO_RECORD bytes, written by yuglasno_open and by no one else
+ *   rx      the receive buffer: 8 bytes at least; a reply that it can't hold is answered TOO_LARGE. YUGLASNO_CAPACITY takes any DATA
+ *   msg     the message buffer, for the text of a FAIL: at least as long as rx
+ *   lent    the path or the data of the call
+ *   out     takes the reply: YUGLASNO_REPLY bytes at least
+ * A slice crosses as address and length. It needs no alignment; NULL with length 0 is fine. Slices must not overlap. The library keeps
+ * no address: it reads and writes inside the slices, and only until it returns. rx and msg have the same lengths in every call and report
+ * of a session; from a call's start to its answer lent has the same length and the same bytes. The host alters rec nowhere, and rx only
+ * in the window that it is to read into. No address is kept, so record and buffers may be moved as plain bytes between two calls.
+ * Each function answers every input; two threads may be in the library at once, each with slices of its own.
+ *
+ * What is returned: two forms of number
+ *   yuglasno_open   the answer's number alone: OK, SMALL_BUFFER, SHORT_MESSAGE_BUFFER, or OTHER_LENGTH for rec
+ *   the others      what + 256 * number: yuglasno_what() says what is asked (YUGLASNO_WHAT_..), and of WHAT_TOLD yuglasno_answer() is the
+ *                   answer's number (YUGLASNO_ANSWER_..). Where something is asked, number is 0 and means nothing.
+ *
+ * What stands in out: words of eight bytes, the lowest first; yuglasno_word() reads them
+ *   WHAT_READ         word 0 where the window starts in rx, word 1 its length: read 1 byte to the whole window, to its front
+ *   WHAT_WRITE_RX     word 0 where the piece starts in rx, word 1 its length: write it whole. A panel may be gone by then: on POSIX have
+ *                     SIGPIPE ignored, so that this is FAULT_CLOSED and not the program's end
+ *   WHAT_WRITE_LENT   the same, in lent
+ *   WHAT_WRITE_BYTES  word 0 how many bytes, at most 16; they stand in out from byte 8 on
+ *   WHAT_CLOSE        nothing
+ *   WHAT_TOLD         word 0 a kind (YUGLASNO_KIND_..), word 1 where a part starts, word 2 its length, then numbers by the kind:
+ *     KIND_DONE, KIND_END         none
+ *     KIND_STAT, KIND_STAT_V2     the words YUGLASNO_AT_.., YUGLASNO_AT_V2_..
+ *     KIND_ENTRY, KIND_ENTRY_V2   the same words; the part is the entry's name, in rx
+ *     KIND_CHUNK                  none; the part is data, in rx
+ *     KIND_OTHER                  an answer that is not OK. Word 3 is the feature (MISSING), the code that was reported (IO), an id as the
+ *                                 number that its four bytes spell, the lowest first (UNEXPECTED), the panel's errno (ERRNO); the part is
+ *                                 a FAIL's text, in msg. Other answers have no part and no number
+ *   OTHER_LENGTH      out is left alone where it is too short itself, or where rec holds no session
+ * A part stands until the next call.
+ *
+ * What of the record may be read: how many bytes a read still wants, by yuglasno_wanted(). All else in it is the library's own. */
+#ifndef YUGLASNO_H
+#define YUGLASNO_H
+
+#include <stddef.h>
+#include <stdint.h>
+
+#ifdef __cplusplus
+extern "C" {
+#endif
+
+#define YUGLASNO_RECORD 192     /* bytes of a record */
+#define YUGLASNO_REPLY 112      /* bytes of a slice that takes any reply */
+#define YUGLASNO_DATA_MOST 65536 /* the most bytes in one DATA message */
+#define YUGLASNO_CAPACITY 65544 /* bytes of a receive buffer that takes every DATA message, with its header */
+#define YUGLASNO_PATH_MOST 65536 /* the most bytes of a path */
+
+/* The calls. lent is the path, or DATA's data; NEXT_ENTRY and the other calls without either may be lent anything, such as NULL.
+ * a is the mode of a push or SEND_DONE's time, b the flags of a v2 transfer; where a call has neither they are not looked at. */
+enum {                              /* lent   a     b      */
+  YUGLASNO_CALL_STAT = 1,           /* path                */
+  YUGLASNO_CALL_STAT_V2 = 2,        /* path                */
+  YUGLASNO_CALL_LIST = 3,           /* path                */
+  YUGLASNO_CALL_LIST_V2 = 4,        /* path                */
+  YUGLASNO_CALL_RECV = 5,           /* path                */
+  YUGLASNO_CALL_RECV_V2 = 6,        /* path         flags  */
+  YUGLASNO_CALL_SEND = 7,           /* path   mode         */
+  YUGLASNO_CALL_SEND_V2 = 8,        /* path   mode  flags  */
+  YUGLASNO_CALL_DATA = 9,           /* data                */
+  YUGLASNO_CALL_SEND_DONE = 10,     /*        time         */
+  YUGLASNO_CALL_QUIT = 11,
+  YUGLASNO_CALL_NEXT_ENTRY = 12,    /* after LIST, until KIND_END */
+  YUGLASNO_CALL_NEXT_ENTRY_V2 = 13, /* after LIST_V2, until KIND_END */
+  YUGLASNO_CALL_RECV_NEXT = 14      /* after RECV or RECV_V2, until KIND_END */
+};
+
+/* The flags of a v2 transfer: one packing at most, and DRY_RUN of a push alone. The packing itself is the host's. */
+#define YUGLASNO_FLAG_NONE 0x00000000u
+#define YUGLASNO_FLAG_BROTLI 0x00000001u
+#define YUGLASNO_FLAG_LZ4 0x00000002u
+#define YUGLASNO_FLAG_ZSTD 0x00000004u
+#define YUGLASNO_FLAG_DRY_RUN 0x80000000u
+
+/* What is asked or told, and how to report it. */
+enum {
+  YUGLASNO_WHAT_TOLD = 0,        /* the call or the report is answered */
+  YUGLASNO_WHAT_READ = 1,        /* yuglasno_read with the count, or yuglasno_fault */
+  YUGLASNO_WHAT_WRITE_RX = 2,    /* yuglasno_wrote once it is written whole, or yuglasno_fault */
+  YUGLASNO_WHAT_WRITE_LENT = 3,  /* the same */
+  YUGLASNO_WHAT_WRITE_BYTES = 4, /* the same */
+  YUGLASNO_WHAT_CLOSE = 5        /* yuglasno_wrote once it is closed, or yuglasno_fault */
+};
+
+/* The kinds of a fault; any other kind is an error too. */
+enum {
+  YUGLASNO_FAULT_CLOSED = 0, /* the channel was found closed; code is not looked at */
+  YUGLASNO_FAULT_ERROR = 1   /* another fault, with a code of the host's own */
+};
+
+/* The answers. 1 to 11 change nothing: record, buffers and a pending call are as before. docs/ANSWERS.md says what to do. */
+enum {
+  YUGLASNO_ANSWER_OK = 0,
+  YUGLASNO_ANSWER_SMALL_BUFFER = 1,         /* rx is under 8 bytes */
+  YUGLASNO_ANSWER_SHORT_MESSAGE_BUFFER = 2, /* msg is shorter than rx */
+  YUGLASNO_ANSWER_OTHER_LENGTH = 3,         /* a slice has another length than it must have, or rec holds no session */
+  YUGLASNO_ANSWER_PENDING = 4,              /* a call while one is pending */
+  YUGLASNO_ANSWER_NOT_AWAITED = 5,          /* a report that is not awaited, or no such call */
+  YUGLASNO_ANSWER_ENDED = 6,                /* a call or report after quit */
+  YUGLASNO_ANSWER_LONG_PATH = 7,            /* a path over YUGLASNO_PATH_MOST bytes */
+  YUGLASNO_ANSWER_NUL_IN_PATH = 8,          /* a NUL in the path */
+  YUGLASNO_ANSWER_FLAGS = 9,                /* flags that no transfer of this kind takes */
+  YUGLASNO_ANSWER_MISSING = 10,             /* the banner lacks a feature: word 3 */
+  YUGLASNO_ANSWER_COUNT = 11,               /* a read of no bytes, or of more than the window */
+  YUGLASNO_ANSWER_CLOSED = 12,              /* the channel is closed */
+  YUGLASNO_ANSWER_IO = 13,                  /* another fault of the link: word 3 is its code */
+  YUGLASNO_ANSWER_FAIL = 14,                /* the panel's FAIL: its text is a part of msg */
+  YUGLASNO_ANSWER_UNEXPECTED = 15,          /* a reply under an id that does not belong there: word 3 */
+  YUGLASNO_ANSWER_ERRNO = 16,               /* the panel's errno in a v2 stat: word 3 */
+  YUGLASNO_ANSWER_TOO_LARGE = 17,           /* a reply that rx can't hold */
+  YUGLASNO_ANSWER_BAD_REQUEST = 18          /* of the panel's request reader, which is not exported: no function here answers it */
+};
+
+/* The features of a banner, as answer MISSING numbers them. */
+enum {
+  YUGLASNO_FEATURE_STAT_V2 = 1,
+  YUGLASNO_FEATURE_LS_V2 = 2,
+  YUGLASNO_FEATURE_SENDRECV_V2 = 3,
+  YUGLASNO_FEATURE_BROTLI = 4,
+  YUGLASNO_FEATURE_LZ4 = 5,
+  YUGLASNO_FEATURE_ZSTD = 6,
+  YUGLASNO_FEATURE_DRY_RUN_SEND = 7
+};
+
+/* The kinds of a WHAT_TOLD. */
+enum {
+  YUGLASNO_KIND_DONE = 0,     /* the call is done */
+  YUGLASNO_KIND_END = 1,      /* the listing or the pull is at its end */
+  YUGLASNO_KIND_STAT = 2,     /* to STAT */
+  YUGLASNO_KIND_STAT_V2 = 3,  /* to STAT_V2 */
+  YUGLASNO_KIND_ENTRY = 4,    /* to NEXT_ENTRY */
+  YUGLASNO_KIND_ENTRY_V2 = 5, /* to NEXT_ENTRY_V2 */
+  YUGLASNO_KIND_CHUNK = 6,    /* to RECV_NEXT */
+  YUGLASNO_KIND_OTHER = 7     /* an answer that is not OK */
+};
+
+/* Where a WHAT_TOLD has its words: kind and part, then those of KIND_STAT and KIND_ENTRY, then those of KIND_STAT_V2 and KIND_ENTRY_V2.
+ * The times of v2 are signed: (int64_t) of the word. */
+enum {
+  YUGLASNO_AT_KIND = 0,
+  YUGLASNO_AT_START = 1,
+  YUGLASNO_AT_LENGTH = 2,
+  YUGLASNO_AT_NUMBER = 3, /* of MISSING, IO, UNEXPECTED, ERRNO */
+  YUGLASNO_AT_MODE = 3,
+  YUGLASNO_AT_SIZE = 4,
+  YUGLASNO_AT_MTIME = 5,
+  YUGLASNO_AT_V2_ERROR = 3, /* the panel's errno: not 0 only in an entry */
+  YUGLASNO_AT_V2_DEV = 4,
+  YUGLASNO_AT_V2_INO = 5,
+  YUGLASNO_AT_V2_MODE = 6,
+  YUGLASNO_AT_V2_NLINK = 7,
+  YUGLASNO_AT_V2_UID = 8,
+  YUGLASNO_AT_V2_GID = 9,
+  YUGLASNO_AT_V2_SIZE = 10,
+  YUGLASNO_AT_V2_ATIME = 11,
+  YUGLASNO_AT_V2_MTIME = 12,
+  YUGLASNO_AT_V2_CTIME = 13
+};
+
+/* Opens a session in rec, for buffers of these two lengths. Of the banner only "features=.." counts. */
+uint32_t yuglasno_open(uint8_t *rec, size_t rec_len, const uint8_t *banner, size_t banner_len, size_t rx, size_t msg);
+
+/* Starts a call. */
+uint32_t yuglasno_start(uint8_t *rec, size_t rec_len, uint8_t *rx, size_t rx_len, uint8_t *msg, size_t msg_len,
+                        const uint8_t *lent, size_t lent_len, uint32_t call, uint32_t a, uint32_t b, uint8_t *out, size_t out_len);
+
+/* Reports that count bytes were read to the front of the window. */
+uint32_t yuglasno_read(uint8_t *rec, size_t rec_len, uint8_t *rx, size_t rx_len, uint8_t *msg, size_t msg_len,
+                       const uint8_t *lent, size_t lent_len, size_t count, uint8_t *out, size_t out_len);
+
+/* Reports that the piece was written whole, or that the channel is closed as asked. */
+uint32_t yuglasno_wrote(uint8_t *rec, size_t rec_len, uint8_t *rx, size_t rx_len, uint8_t *msg, size_t msg_len,
+                        const uint8_t *lent, size_t lent_len, uint8_t *out, size_t out_len);
+
+/* Reports a fault of what was asked for: YUGLASNO_FAULT_CLOSED, or an error with its code. */
+uint32_t yuglasno_fault(uint8_t *rec, size_t rec_len, uint8_t *rx, size_t rx_len, uint8_t *msg, size_t msg_len,
+                        const uint8_t *lent, size_t lent_len, uint32_t kind, uint32_t code, uint8_t *out, size_t out_len);
+
+/* What is asked, of a number that one of the last four returned. */
+static inline uint32_t yuglasno_what(uint32_t returned) { return returned & 255; }
+
+/* The answer's number, of one whose what is YUGLASNO_WHAT_TOLD. */
+static inline uint32_t yuglasno_answer(uint32_t returned) { return returned >> 8; }
+
+/* Word i of a reply or a record. */
+static inline uint64_t yuglasno_word(const uint8_t *bytes, size_t i) {
+  uint64_t word = 0;
+  for (size_t k = 8; k-- > 0;) word = word << 8 | bytes[8 * i + k];
+  return word;
+}
+
+/* How many bytes the read that is asked for still wants, at least 1: a host may gather reads up to it (and to the window's end) before
+ * it reports. A hint: any count from one to the window may be reported. It is the record's word 9 less its word 3. */
+static inline size_t yuglasno_wanted(const uint8_t *rec) {
+  uint64_t until = yuglasno_word(rec, 9), tail = yuglasno_word(rec, 3);
+  return until > tail ? (size_t)(until - tail) : 1;
+}
+
+#ifdef __cplusplus
+}
+#endif
+
+#endif

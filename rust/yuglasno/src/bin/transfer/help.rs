@@ -1,0 +1,50 @@
+//! What `transfer --help` says: the words, and the exit statuses from the tables of their meanings.
+use crate::stop::STATUSES;
+use std::fmt::Write;
+use yuglasno::MEANINGS;
+
+const USAGE: &str = "\
+usage: transfer [WHERE] [OPTIONS] COMMAND
+
+commands:
+  stat PATH                         a file's numbers
+  ls PATH                           a folder's entries: mode, size, time in Unix seconds, name
+  pull PATH FILE                    the panel's PATH to FILE, or into the folder FILE
+  push FILE PATH [MODE]             FILE to the panel's PATH, with its permission bits or an octal MODE
+  archive FOLDER DIR [--recursive]  each regular file of the panel's FOLDER to DIR, unless DIR holds it already, with DIR/SHA256SUMS
+                                    and DIR/DETAILS as lists; with its sub-folders
+  verify DIR                        DIR read back against its lists, without a panel
+A FILE that is - is standard input or output. Options may stand behind the command; behind -- no word is an option.
+
+where the panel is:
+  --server HOST:PORT [--serial S]   a device of an ADB server (the default, at localhost:5037)
+  --unix PATH                       a Unix socket that speaks sync
+  --stdio                           standard input and output; what is said goes to standard error
+  --exec COMMAND [ARGS..] --        a program's standard input and output
+  --panel [--cut N]                 a panel in this program, with a few jobs under /jobs; its replies come in pieces of 1 to N bytes
+
+options:
+  --features LIST                   the panel's features, such as stat_v2,ls_v2,sendrecv_v2, where it does not say them
+  --capacity N                      the receive buffer's length (65544 takes every DATA message)
+  --timeout SECONDS                 the longest wait for a connection, a read or a write, over --server or --unix; status 13 then
+  --help, --version                 this text; the program's version
+
+environment, as adb has it: ANDROID_SERIAL; ADB_SERVER_SOCKET, or ANDROID_ADB_SERVER_ADDRESS and ANDROID_ADB_SERVER_PORT
+
+A pull writes to a file of its own in FILE's folder, which gets FILE's name when it is on disk and the panel's numbers from
+before and after agree with its bytes. A push is cut off where FILE changes meanwhile.
+
+exit status, which is also the number that a message begins with:
+";
+
+/// The last answer that a session gives; the number behind it is the reader of requests' own.
+const SESSION: u32 = 17;
+
+pub fn text() -> String {
+    let mut text = USAGE.to_string();
+    let answers = MEANINGS.into_iter().filter(|(number, _)| *number <= SESSION);
+    for (number, meaning) in answers.chain(STATUSES.map(|(number, meaning)| (number.into(), meaning))) {
+        let _ = writeln!(text, "  {number:>2}  {meaning}");
+    }
+    text
+}

@@ -1,0 +1,212 @@
+/* What yuglasno.h says, tried: NULL with length 0, slices at odd addresses, the two forms of a returned number, refusals that change
+ * nothing, the reply's layout by kind, what a read still wants. Its last line is 'N passed, M failed'. Also compiled as C++. */
+#include "yuglasno.h"
+
+#include <stdio.h>
+#include <string.h>
+
+#define PATH "/a"
+#define ALL "features=stat_v2,ls_v2,sendrecv_v2"
+
+static int passed, failed;
+
+#define CHECK(what) check(what, #what, __LINE__)
+
+static void check(int held, const char *what, int line) {
+  if (held) {
+    passed++;
+  } else {
+    failed++;
+    printf("edges: line %d: not so: %s\n", line, what);
+  }
+}
+
+/* Every slice starts at an odd address. */
+enum { CAPACITY = 101, ODD = 1 };
+static uint8_t memory[4][CAPACITY + YUGLASNO_RECORD + ODD];
+static uint8_t *const rec = memory[0] + ODD, *const rx = memory[1] + ODD, *const msg = memory[2] + ODD, *const out = memory[3] + ODD;
+static uint8_t written[CAPACITY];
+static size_t writes;
+
+#define SESSION rec, YUGLASNO_RECORD, rx, CAPACITY, msg, CAPACITY
+#define REPLY out, YUGLASNO_REPLY
+
+static uint64_t word(size_t i) { return yuglasno_word(out, i); }
+
+static void open_session(const char *banner) {
+  uint32_t told = yuglasno_open(rec, YUGLASNO_RECORD, (const uint8_t *)banner, strlen(banner), CAPACITY, CAPACITY);
+  CHECK(told == YUGLASNO_ANSWER_OK);
+}
+
+static void keep(const uint8_t *piece, size_t length) {
+  memcpy(written + writes, piece, length);
+  writes += length;
+}
+
+/* Takes what is asked, but for a read: what is returned next. */
+static uint32_t follow(uint32_t told, const uint8_t *lent, size_t length) {
+  switch (yuglasno_what(told)) {
+    case YUGLASNO_WHAT_WRITE_RX: keep(rx + word(0), word(1)); break;
+    case YUGLASNO_WHAT_WRITE_LENT: keep(lent + word(0), word(1)); break;
+    case YUGLASNO_WHAT_WRITE_BYTES: keep(out + 8, word(0)); break;
+    default: break;
+  }
+  return yuglasno_wrote(SESSION, lent, length, REPLY);
+}
+
+static size_t least(size_t m, size_t n) { return m < n ? m : n; }
+
+/* A call with this reply, in reads of `cut` bytes and then the end of the channel: the answer's number. */
+static uint32_t call(uint32_t number, const char *path, const char *reply, size_t length, size_t cut) {
+  const uint8_t *lent = (const uint8_t *)path;
+  size_t lent_len = strlen(path), at = 0;
+  writes = 0;
+  uint32_t told = yuglasno_start(SESSION, lent, lent_len, number, 0, 0, REPLY);
+  while (yuglasno_what(told) != YUGLASNO_WHAT_TOLD) {
+    if (yuglasno_what(told) != YUGLASNO_WHAT_READ) {
+      told = follow(told, lent, lent_len);
+    } else if (at == length) {
+      told = yuglasno_fault(SESSION, lent, lent_len, YUGLASNO_FAULT_CLOSED, 0, REPLY);
+    } else {
+      size_t count = least(cut, least(length - at, word(1)));
+      memcpy(rx + word(0), reply + at, count);
+      at += count;
+      told = yuglasno_read(SESSION, lent, lent_len, count, REPLY);
+    }
+  }
+  return yuglasno_answer(told);
+}
+
+#define HEARD(number, path, reply, cut) call(number, path, reply, sizeof(reply) - 1, cut)
+
+static void opening(void) {
+  CHECK(yuglasno_open(NULL, 0, NULL, 0, CAPACITY, CAPACITY) == YUGLASNO_ANSWER_OTHER_LENGTH);
+  CHECK(yuglasno_open(rec, YUGLASNO_RECORD, NULL, 0, 7, 8) == YUGLASNO_ANSWER_SMALL_BUFFER);
+  CHECK(yuglasno_open(rec, YUGLASNO_RECORD, NULL, 0, 9, 8) == YUGLASNO_ANSWER_SHORT_MESSAGE_BUFFER);
+  CHECK(yuglasno_open(rec, YUGLASNO_RECORD - 1, NULL, 0, 8, 8) == YUGLASNO_ANSWER_OTHER_LENGTH);
+  CHECK(yuglasno_open(rec, YUGLASNO_RECORD, NULL, 0, CAPACITY, CAPACITY) == YUGLASNO_ANSWER_OK);
+}
+
+/* A refusal, which leaves record and buffers as they were. */
+static uint8_t before[3][sizeof memory[0]];
+
+static void refused(uint32_t told, uint32_t answer, int line) {
+  check(told == answer << 8, "the answer", line);
+  check(memcmp(before, memory, sizeof before) == 0, "nothing has changed", line);
+}
+
+#define REFUSED(answer, told) (memcpy(before, memory, sizeof before), refused(told, YUGLASNO_ANSWER_##answer, __LINE__))
+
+static void refusals(void) {
+  static uint8_t path[YUGLASNO_PATH_MOST + 1];
+  memset(path, 'p', sizeof path);
+  open_session("");
+  REFUSED(OTHER_LENGTH, yuglasno_start(SESSION, path, 1, YUGLASNO_CALL_STAT, 0, 0, NULL, 0));
+  REFUSED(OTHER_LENGTH, yuglasno_start(NULL, 0, rx, CAPACITY, msg, CAPACITY, path, 1, YUGLASNO_CALL_STAT, 0, 0, REPLY));
+  REFUSED(OTHER_LENGTH, yuglasno_start(rec, YUGLASNO_RECORD, NULL, 0, NULL, 0, path, 1, YUGLASNO_CALL_STAT, 0, 0, REPLY));
+  REFUSED(LONG_PATH, yuglasno_start(SESSION, path, sizeof path, YUGLASNO_CALL_STAT, 0, 0, REPLY));
+  REFUSED(NUL_IN_PATH, yuglasno_start(SESSION, (const uint8_t *)"a\0b", 3, YUGLASNO_CALL_STAT, 0, 0, REPLY));
+  REFUSED(FLAGS, yuglasno_start(SESSION, path, 1, YUGLASNO_CALL_RECV_V2, 0, YUGLASNO_FLAG_DRY_RUN, REPLY));
+  REFUSED(MISSING, yuglasno_start(SESSION, path, 1, YUGLASNO_CALL_LIST_V2, 0, 0, REPLY));
+  CHECK(word(YUGLASNO_AT_KIND) == YUGLASNO_KIND_OTHER && word(YUGLASNO_AT_NUMBER) == YUGLASNO_FEATURE_LS_V2);
+  REFUSED(NOT_AWAITED, yuglasno_start(SESSION, NULL, 0, YUGLASNO_CALL_RECV_NEXT + 1, 0, 0, REPLY));
+  REFUSED(NOT_AWAITED, yuglasno_wrote(SESSION, NULL, 0, REPLY));
+}
+
+/* While a read is awaited. */
+static void pending(void) {
+  open_session("");
+  CHECK(yuglasno_what(yuglasno_start(SESSION, NULL, 0, YUGLASNO_CALL_RECV_NEXT, 0, 0, REPLY)) == YUGLASNO_WHAT_READ);
+  CHECK(word(0) == 0 && word(1) == CAPACITY && yuglasno_wanted(rec) == 8);
+  CHECK(yuglasno_start(SESSION, NULL, 0, YUGLASNO_CALL_QUIT, 0, 0, REPLY) == YUGLASNO_ANSWER_PENDING << 8);
+  CHECK(yuglasno_read(SESSION, NULL, 0, 0, REPLY) == YUGLASNO_ANSWER_COUNT << 8);
+  CHECK(yuglasno_read(SESSION, NULL, 0, CAPACITY + 1, REPLY) == YUGLASNO_ANSWER_COUNT << 8);
+  CHECK(yuglasno_read(SESSION, (const uint8_t *)PATH, 2, 1, REPLY) == YUGLASNO_ANSWER_OTHER_LENGTH << 8);
+  CHECK(yuglasno_read(SESSION, NULL, 0, 3, REPLY) == YUGLASNO_WHAT_READ);
+  CHECK(word(0) == 3 && word(1) == CAPACITY - 3 && yuglasno_wanted(rec) == 5);
+  CHECK(yuglasno_fault(SESSION, NULL, 0, YUGLASNO_FAULT_ERROR, 110, REPLY) == YUGLASNO_ANSWER_IO << 8);
+  CHECK(word(YUGLASNO_AT_KIND) == YUGLASNO_KIND_OTHER && word(YUGLASNO_AT_NUMBER) == 110 && yuglasno_wanted(rec) == 1);
+}
+
+/* Record and buffers moved while a read is awaited: the session goes on where they are then. */
+static void moved(void) {
+  static uint8_t other[3][sizeof memory[0]];
+  open_session("");
+  CHECK(yuglasno_start(SESSION, NULL, 0, YUGLASNO_CALL_RECV_NEXT, 0, 0, REPLY) == YUGLASNO_WHAT_READ);
+  memcpy(rx, "DATA\2", 5);
+  CHECK(yuglasno_read(SESSION, NULL, 0, 5, REPLY) == YUGLASNO_WHAT_READ && word(0) == 5);
+  memcpy(other, memory, sizeof other);
+  memset(memory, 0xff, sizeof other);
+  memcpy(other[1] + ODD + 5, "\0\0\0no", 5);
+  uint32_t told = yuglasno_read(other[0] + ODD, YUGLASNO_RECORD, other[1] + ODD, CAPACITY, other[2] + ODD, CAPACITY, NULL, 0, 5, REPLY);
+  CHECK(told == YUGLASNO_ANSWER_OK && word(YUGLASNO_AT_KIND) == YUGLASNO_KIND_CHUNK && word(YUGLASNO_AT_LENGTH) == 2);
+  CHECK(memcmp(other[1] + ODD + word(YUGLASNO_AT_START), "no", 2) == 0);
+}
+
+static int part_is(const uint8_t *slice, const char *text) {
+  return word(YUGLASNO_AT_LENGTH) == strlen(text) && memcmp(slice + word(YUGLASNO_AT_START), text, strlen(text)) == 0;
+}
+
+#define STAT1 "\244\201\0\0\316\007\0\0\005\0\0\0"
+#define V2(error) error "\0\0\0\1\0\0\0\0\0\0\200\2\0\0\0\0\0\0\0\244\201\0\0\3\0\0\0\4\0\0\0\5\0\0\0\6\0\0\0\0\0\0\200" \
+                        "\7\0\0\0\0\0\0\0\377\377\377\377\377\377\377\377\11\0\0\0\0\0\0\0"
+
+static int stat_is_there(void) {
+  return word(YUGLASNO_AT_MODE) == 0100644 && word(YUGLASNO_AT_SIZE) == 1998 && word(YUGLASNO_AT_MTIME) == 5;
+}
+
+static int stat_v2_is_there(uint64_t error) {
+  const uint64_t high = UINT64_C(0x8000000000000000);
+  return word(YUGLASNO_AT_V2_ERROR) == error && word(YUGLASNO_AT_V2_DEV) == (high | 1) && word(YUGLASNO_AT_V2_INO) == 2 &&
+         word(YUGLASNO_AT_V2_MODE) == 0100644 && word(YUGLASNO_AT_V2_NLINK) == 3 && word(YUGLASNO_AT_V2_UID) == 4 &&
+         word(YUGLASNO_AT_V2_GID) == 5 && word(YUGLASNO_AT_V2_SIZE) == (high | 6) && word(YUGLASNO_AT_V2_ATIME) == 7 &&
+         (int64_t)word(YUGLASNO_AT_V2_MTIME) == -1 && word(YUGLASNO_AT_V2_CTIME) == 9;
+}
+
+static void answered(size_t cut) {
+  open_session(ALL);
+  CHECK(HEARD(YUGLASNO_CALL_STAT, PATH, "STAT" STAT1, cut) == YUGLASNO_ANSWER_OK && word(YUGLASNO_AT_KIND) == YUGLASNO_KIND_STAT);
+  CHECK(stat_is_there() && writes == 10 && memcmp(written, "STAT\2\0\0\0" PATH, 10) == 0);
+  CHECK(HEARD(YUGLASNO_CALL_STAT_V2, PATH, "STA2" V2("\0"), cut) == YUGLASNO_ANSWER_OK);
+  CHECK(word(YUGLASNO_AT_KIND) == YUGLASNO_KIND_STAT_V2 && stat_v2_is_there(0));
+  CHECK(HEARD(YUGLASNO_CALL_NEXT_ENTRY, "", "DENT" STAT1 "\3\0\0\0T98", cut) == YUGLASNO_ANSWER_OK);
+  CHECK(word(YUGLASNO_AT_KIND) == YUGLASNO_KIND_ENTRY && stat_is_there() && part_is(rx, "T98"));
+  CHECK(HEARD(YUGLASNO_CALL_NEXT_ENTRY_V2, "", "DNT2" V2("\15") "\3\0\0\0T98", cut) == YUGLASNO_ANSWER_OK);
+  CHECK(word(YUGLASNO_AT_KIND) == YUGLASNO_KIND_ENTRY_V2 && stat_v2_is_there(13) && part_is(rx, "T98"));
+  CHECK(HEARD(YUGLASNO_CALL_RECV_NEXT, "", "DATA\7\0\0\0heights", cut) == YUGLASNO_ANSWER_OK);
+  CHECK(word(YUGLASNO_AT_KIND) == YUGLASNO_KIND_CHUNK && part_is(rx, "heights"));
+  CHECK(HEARD(YUGLASNO_CALL_RECV_NEXT, "", "DONE\0\0\0\0", cut) == YUGLASNO_ANSWER_OK && word(YUGLASNO_AT_KIND) == YUGLASNO_KIND_END);
+  CHECK(HEARD(YUGLASNO_CALL_SEND_DONE, "", "OKAY\0\0\0\0", cut) == YUGLASNO_ANSWER_OK && word(YUGLASNO_AT_KIND) == YUGLASNO_KIND_DONE);
+}
+
+static void panels_answers(size_t cut) {
+  open_session(ALL);
+  CHECK(HEARD(YUGLASNO_CALL_STAT, PATH, "FAIL\2\0\0\0no", cut) == YUGLASNO_ANSWER_FAIL);
+  CHECK(word(YUGLASNO_AT_KIND) == YUGLASNO_KIND_OTHER && part_is(msg, "no"));
+  CHECK(HEARD(YUGLASNO_CALL_STAT_V2, PATH, "STA2" V2("\2"), cut) == YUGLASNO_ANSWER_ERRNO && word(YUGLASNO_AT_NUMBER) == 2);
+  CHECK(HEARD(YUGLASNO_CALL_RECV_NEXT, "", "DATA\377\377\377\377", cut) == YUGLASNO_ANSWER_TOO_LARGE);
+  open_session(ALL);
+  CHECK(HEARD(YUGLASNO_CALL_STAT, PATH, "LST2\0\0\0\0", cut) == YUGLASNO_ANSWER_UNEXPECTED && word(YUGLASNO_AT_NUMBER) == 0x3254534c);
+  open_session(ALL);
+  CHECK(HEARD(YUGLASNO_CALL_STAT, PATH, "STA", cut) == YUGLASNO_ANSWER_CLOSED);
+}
+
+static void quitting(void) {
+  open_session("");
+  CHECK(HEARD(YUGLASNO_CALL_QUIT, "", "", 1) == YUGLASNO_ANSWER_OK && writes == 8 && memcmp(written, "QUIT\0\0\0\0", 8) == 0);
+  CHECK(yuglasno_start(SESSION, NULL, 0, YUGLASNO_CALL_QUIT, 0, 0, REPLY) == YUGLASNO_ANSWER_ENDED << 8);
+}
+
+int main(void) {
+  opening();
+  refusals();
+  pending();
+  moved();
+  for (size_t cut = 1; cut <= CAPACITY; cut += 50) {
+    answered(cut);
+    panels_answers(cut);
+  }
+  quitting();
+  printf("%d passed, %d failed\n", passed, failed);
+  return failed != 0;
+}

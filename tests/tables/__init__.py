@@ -1,0 +1,28 @@
+"""The boundary's numbers as tables: those of the header, of the Rust crate and of the definitions. Each table is a dict by name."""
+import re
+
+
+def snake(name):
+    """The name as the header has it: SmallBuffer, smallBuffer and small_buffer are SMALL_BUFFER, StatV2 is STAT_V2, Lz4 is LZ4."""
+    return re.sub(r'(?<=[a-z0-9])(?=[A-Z])', '_', name).upper()
+
+
+def section(text, start, end):
+    """The text from the first `start` to the next `end`; empty where it is not there."""
+    at = text.find(start)
+    return '' if at < 0 else text[at:text.find(end, at + len(start))]
+
+
+def found(pattern, text):
+    """Name and number of each match: the pattern's groups `name` and `number`."""
+    return {snake(m['name']): int(m['number'], 0) for m in re.finditer(pattern, text)}
+
+
+def crossed(parameters):
+    """Parameters as they cross, of pairs of name and type: a slice is an address and a length."""
+    for name, kind in parameters:
+        if kind in ('&mut [u8]', '&[u8]'):
+            yield f'{"mut" if "mut" in kind else "const"} u8 {name}'
+            yield f'usize {name}_len'
+        else:
+            yield f'{kind} {name}'

@@ -1,0 +1,162 @@
+"""The tables of the definitions (crates/*/specs), and of the exported functions' own heads."""
+import re
+
+from . import crossed, found, section, snake
+
+
+
+def specs(crate, names):
+    return [f'crates/{crate}/specs/{name}.antt' for name in names.split()]
+
+
+TOLD, CROSSING, BOUNDARY, HEARD = specs('boundary', 'Told Crossing Boundary Heard')
+ANSWERS, REFUSAL, IDS, MESSAGES, FEATURES, FLAGS = specs('protocol', 'Answers Refusal Ids Messages Features Flags')
+OPENING, REPORTS, HOST = specs('session', 'Calls Reports Host')
+RECORD, FIELDS = specs('record', 'Record Fields')
+READER = 'crates/request_reader/specs/Meaning.antt'
+EXPORTS = 'crates/exports/src/lib.rt'
+SOURCES = [TOLD, CROSSING, BOUNDARY, HEARD, ANSWERS, REFUSAL, IDS, MESSAGES, FEATURES, FLAGS, OPENING, REPORTS, HOST, RECORD, FIELDS, READER]
+SOURCES += [EXPORTS]
+
+# the definitions' words for the calls, and for some answers and kinds
+CALLED = {
+    'stat': 'STAT', 'sta2': 'STAT_V2', 'list': 'LIST', 'lis2': 'LIST_V2', 'recv': 'RECV', 'rcv2': 'RECV_V2',
+    'send': 'SEND', 'snd2': 'SEND_V2', 'chunk': 'DATA', 'data': 'DATA', 'done': 'SEND_DONE', 'quit': 'QUIT',
+    'nextEntry v1': 'NEXT_ENTRY', 'nextEntry v2': 'NEXT_ENTRY_V2', 'nextChunk': 'RECV_NEXT',
+    'entryCall s V1': 'NEXT_ENTRY', 'entryCall s V2': 'NEXT_ENTRY_V2', 'chunkCall s': 'RECV_NEXT',
+}
+SAME = {'STAT_V1': 'STAT', 'ENTRY_V1': 'ENTRY', 'STAT2': 'STAT_V2', 'ENTRY2': 'ENTRY_V2', 'ERROR': 'IO', 'DONE': 'OK'}
+THROUGH = ('DONE', 'END', 'STAT_V1', 'STAT_V2', 'ENTRY_V1', 'ENTRY_V2', 'CHUNK')
+# each refusal by the words before its number
+REFUSALS = {
+    'SMALL_BUFFER': (OPENING, r'pick \(ltb capacity 8\) (\d+)'),
+    'SHORT_MESSAGE_BUFFER': (OPENING, r'pick \(ltb message capacity\) (\d+)'),
+    'OTHER_LENGTH': (OPENING, r'callRefusal s x m = pick \(misfit s x m\) (\d+)'),
+    'PENDING': (OPENING, r'pick \(isIdle \(s \.pending\)\) 0 (\d+)'),
+    'NOT_AWAITED': (REPORTS, r'readAt Idle s k = refusedOut s (\d+)'),
+    'ENDED': (REFUSAL, r'refuse \(g \.ended\) \(refused (\d+)\)'),
+    'LONG_PATH': (REFUSAL, r'refuse \(ltb \(d \.longest\) \(length p\)\) \(refused (\d+)\)'),
+    'NUL_IN_PATH': (REFUSAL, r'refuse \(has 0 p\) \(refused (\d+)\)'),
+    'FLAGS': (REFUSAL, r'refuse \(refusedFlags pull f\) \(refused (\d+)\)'),
+    'COUNT': (REPORTS, r'pick \(ltb \(s \.ses \.capacity - s \.ses \.buf \.tail\) k\) \(refusedOut s (\d+)\)'),
+    'BAD_REQUEST': (READER, r'number R\.Refused = (\d+)'),
+}
+
+
+def calls(text):
+    made = {CALLED[m[1]]: int(m[2]) for m in re.finditer(r'askNumber (\w+) = (\d+)', text)}
+    for m in re.finditer(r'callNumber \(?(?:call \(?)?(nextEntry v\d|\w+)[^=\n]* = (\d+)', text):
+        made[CALLED[m[1]]] = int(m[2])
+    return made
+
+
+def arms(name, text):
+    """The right-hand side of each call's arm of a function over what a host lends besides, `z`, and calls."""
+    made = {}
+    for m in re.finditer(rf'^{name} z \(?(?:call \(?)?(\w+)[^=\n]* = (.+)$', text, re.M):
+        named = {'ask': ['stat', 'sta2', 'list', 'lis2', 'recv'], 'nextEntry': ['nextEntry v1', 'nextEntry v2']}.get(m[1], [m[1]])
+        made |= {CALLED[word]: m[2] for word in named}
+    return made
+
+
+def uses(boundary, host):
+    lent, first, flags = arms('lentOf', host), arms('firstNumber', boundary), arms('flagNumber', boundary)
+    return {call: (lent[call] != 'z .lent', first[call] != 'z .first', flags[call] != 'z .second') for call in lent}
+
+
+def numbered(crossing):
+    """The calls again, as yuglasno_start tells them apart."""
+    requests = re.findall(r'some \(?Q\.(\w+)', section(crossing, 'requestNumbered n a b =', 'none\n'))
+    made = {CALLED[q.lower()]: i for i, q in enumerate(requests, 1)}
+    steps = re.findall(r'eqb n (\d+)\) \((entryCall s V1|entryCall s V2|chunkCall s)', crossing)
+    return made | {CALLED[step]: int(n) for n, step in steps}
+
+
+def answers(texts):
+    made = {name: int(m[1]) for name, (path, pattern) in REFUSALS.items() if (m := re.search(pattern, texts[path]))}
+    return made | not_refused(found(r'answerNumber \(?A\.(?P<name>\w+)[^=\n]*= (?P<number>\d+)', texts[TOLD]))
+
+
+def plain(text):
+    """The answers of the plain reader."""
+    lines = section(text, 'abbrev pub number', '\n\n')
+    return not_refused(found(r'\nnumber \(?(?:broken \(?)?(?P<name>\w+)[^=\n]*= (?P<number>\d+)', lines))
+
+
+def not_refused(made):
+    """The answers but for those that went through, of which `done` is left."""
+    return {SAME.get(name, name): number for name, number in made.items() if number or name == 'DONE'}
+
+
+def words(heard):
+    fields = r'(?P<name>\w+) = (?:signed \()?at out (?P<number>\d+)'
+    made = {'V2_' + name: number for name, number in found(fields, section(heard, 'stat2Heard out =', '\n\n')).items()}
+    made |= found(fields, section(heard, 'statHeard out =', '\n\n'))
+    part = set(re.findall(r'partOf \w+ \(at out (\d+)\) \(at out (\d+)\)', heard))
+    kind = set(re.findall(r'\(doneHeard \(at out (\d+)\)', heard))
+    number = {a or b for a, b in re.findall(r'P\.(?:missing|error|errno) \(at out (\d+)\)|bytesOf 4 \(at out (\d+)\)', heard)}
+    if not len(kind) == len(part) == len(number) == 1:
+        return made
+    start, length = part.pop()
+    return made | {'KIND': int(kind.pop()), 'START': int(start), 'LENGTH': int(length), 'NUMBER': int(number.pop())}
+
+
+def flags(refusal_text, flags_text, features):
+    """Each packing by the bit that asks for its feature, and the bit of a dry run."""
+    by_number = {number: name for name, number in features.items()}
+    made = {by_number.get(int(m[2])): 1 << int(m[1]) for m in re.finditer(r'eqb \(bit (\d+) f\) 1\) (\d+)', refusal_text)}
+    dry = re.search(r'dryRun f = eqb \(bit (\d+) f\) 1', flags_text)
+    return made | ({'DRY_RUN': 1 << int(dry[1])} if dry else {})
+
+
+def features(text):
+    """Numbered from 1, in their order; the names without the `sendrecv_v2_` of the last four."""
+    named = re.findall(r'ascii "(\w+)"', section(text, 'names =', '[]'))
+    return {snake(name.removeprefix('sendrecv_v2_')): i for i, name in enumerate(named, 1)}
+
+
+def kinds(told):
+    made = found(r'answerWords \(?A\.(?P<name>\w+)[^=\n]*= (?P<number>\d+)', told)
+    other = {made.pop(name) for name in set(made) - set(THROUGH)}
+    made = {SAME.get(name, name) if name != 'DONE' else name: number for name, number in made.items()}
+    return made | {'OTHER': other.pop()} if len(other) == 1 else made
+
+
+def read(heard):
+    """Kinds, answers and what is asked, as the host reads them."""
+    kind = {snake(m[2]): int(m[1]) for m in re.finditer(r'eqb kind (\d+)\) \(?(?:partOf[^P]*)?P\.(\w+)', heard)}
+    answer = {snake(m[2]): int(m[1]) for m in re.finditer(r'eqb n (\d+)\) \(?(?:partOf[^P]*)?(?:P\.broken \(?)?P\.(\w+)', heard)}
+    kind |= {'CHUNK': int(m[1])} if (m := re.search(r'eqb kind (\d+)\) \(partOf[^P]*P\.chunk\)', heard)) else {}
+    answer |= {'OK': int(m[1])} if (m := re.search(r'eqb n (\d+)\) \(doneHeard', heard)) else {}
+    return {
+        'kinds, read': {SAME.get(name, name) if name != 'DONE' else name: number for name, number in kind.items()},
+        'answers, read': {SAME.get(name, name): number for name, number in answer.items()},
+        'what, read': found(r'eqb \(n % 256\) (?P<number>\d+)\) \((?P<name>\w+)', heard),
+    }
+
+
+def tables(texts):
+    listed = features(texts[FEATURES])
+    told = texts[TOLD].replace('= 256 * answerNumber a', '= 0')
+    limits = {'RECORD': (RECORD, 'size'), 'REPLY': (TOLD, 'outSize'), 'DATA_MOST': (MESSAGES, 'dataMost'), 'PATH_MOST': (IDS, 'longest')}
+    return read(texts[HEARD]) | {
+        'lengths': {name: int(m[1]) for name, (path, word) in limits.items() if (m := re.search(rf'{word} = (\d+)', texts[path]))},
+        'calls': calls(texts[BOUNDARY]),
+        'calls, at the start': numbered(texts[CROSSING]),
+        'uses': uses(texts[BOUNDARY], texts[HOST]),
+        'what': found(r'replyNumber \(?R\.(?P<name>\w+)[^=\n]*= (?P<number>\d+)', told),
+        'kinds': kinds(texts[TOLD]),
+        'answers': answers(texts),
+        'answers, of the plain reader': plain(texts[ANSWERS]),
+        'words': words(texts[HEARD]),
+        'faults': found(r'endKind z \(?(?P<name>\w+)[^=\n]*= (?P<number>\d+)', texts[BOUNDARY]),
+        'features': listed,
+        'flags': flags(texts[REFUSAL], texts[FLAGS], listed),
+        'record': found(r'(?P<number>\d+) (?P<name>tail|until)\b', section(texts[FIELDS], '--  0 capacity', '--\n')),
+        'functions': dict(functions(texts[EXPORTS])),
+    }
+
+
+def functions(text):
+    for declared in re.finditer(r'pub extern "C" fn (yuglasno_\w+)\(([^)]*)\) -> u32', text):
+        yield declared[1], list(crossed(re.findall(r'(\w+): (&mut \[u8\]|&\[u8\]|usize|u32)', declared[2])))

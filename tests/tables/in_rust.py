@@ -1,0 +1,79 @@
+"""The tables of the crate `yuglasno`."""
+import re
+
+from . import found, section, snake
+
+CRATE = 'rust/yuglasno/src/'
+RAW, CALL, REPLY, ANSWER, ERROR = (CRATE + name for name in ('raw.rs', 'call.rs', 'reply.rs', 'answer.rs', 'error.rs'))
+SESSION, FEATURE, NUMBERS, LIB = (CRATE + name for name in ('session.rs', 'feature.rs', 'numbers.rs', 'lib.rs'))
+SOURCES = [RAW, CALL, REPLY, ANSWER, ERROR, SESSION, FEATURE, NUMBERS, LIB]
+FIELD = r'(?P<name>\w+): (?:FileMode\()?word\(out, (?P<number>\d+)\)'
+
+
+def uses(text):
+    """What of lent, a and b each call uses: the arms of `lent` and of `numbers`."""
+    lent = set(re.findall(r'Self::(\w+)\((?:path|data)', section(text, 'pub fn lent(', '=> &[]')))
+    for arm in re.finditer(r'Self::(\w+)(?:\([^)]*\))? => \(\d+, ([\w.]+), ([\w.]+)\)', text):
+        yield snake(arm[1]), (arm[1] in lent, arm[2] != '0', arm[3] != '0')
+
+
+def what(text):
+    heard = section(text, 'fn heard(', '\n}\n')
+    made = found(r'(?P<number>\d+) => (?:return Reply|Ask)::(?P<name>\w+)', heard)
+    made |= found(r'(?P<number>\d+) => \{\s*let len[^;]*;\s*Ask::(?P<name>\w+)', heard)
+    # any other number is the close
+    return made | ({'CLOSE': max(made.values()) + 1} if '_ => Ask::Close' in heard else {})
+
+
+def kinds(text):
+    made = found(r'(?P<number>\d+) => Answer::(?P<name>\w+)', text)
+    # any other kind of an answer that is 0 is a chunk; an answer that is not 0 has no use of its kind
+    return made | ({'CHUNK': max(made.values()) + 1} if '_ => Answer::Chunk(held)' in text else {})
+
+
+def only(pattern, text):
+    """The number of the pattern where all its matches have the same; none otherwise."""
+    numbers = {int(n) for n in re.findall(pattern, text)}
+    return numbers.pop() if len(numbers) == 1 else None
+
+
+def words(answer, session, error):
+    """The words of a reply, each by the name of the field that it goes to."""
+    made = {'V2_' + name: number for name, number in found(FIELD, section(answer, 'fn stat_v2(', '\n}\n')).items()}
+    made |= found(FIELD, section(answer, 'fn stat(', '\n}\n'))
+    made['KIND'] = only(r'match word\(out, (\d+)\)', answer)
+    made['START'] = only(r'part\(&self\.reply, (\d+)\)', session)
+    made['LENGTH'] = made['START'] and made['START'] + 1
+    made['NUMBER'] = only(r'word\(out, (\d+)\)', error)
+    return made
+
+
+def functions(text):
+    for declared in re.finditer(r'pub fn (yuglasno_\w+)\(([^)]*)\) -> u32;', text):
+        pairs = re.findall(r'(\w+): (\*mut u8|\*const u8|usize|u32)', declared[2])
+        yield declared[1], [kind.lstrip('*') + ' ' + name for name, kind in pairs]
+
+
+def tables(texts):
+    lengths = found(r'pub const (?P<name>RECORD|REPLY): usize = (?P<number>\d+);', texts[RAW])
+    lengths |= found(r'pub const (?P<name>DATA_MOST): usize = (?P<number>[\d_]+);', texts[LIB])
+    header = re.search(r'pub const CAPACITY: usize = (\d+) \+ DATA_MOST;', texts[LIB])
+    return {
+        'lengths': lengths | ({'CAPACITY': int(header[1]) + lengths['DATA_MOST']} if header else {}),
+        'calls': found(r'Self::(?P<name>\w+)(?:\([^)]*\))? => \((?P<number>\d+),', texts[CALL]),
+        'uses': dict(uses(texts[CALL])),
+        'what': what(texts[REPLY]),
+        'kinds': kinds(texts[ANSWER]),
+        'answers': found(r'Self::(?P<name>\w+)(?:\(_\)| \{ \.\. \})? => (?P<number>\d+),', section(texts[ERROR], 'fn number', '\n    }\n')),
+        'words': words(texts[ANSWER], texts[SESSION], texts[ERROR]),
+        'faults': found(r'Report::(?P<name>Closed|Error)(?:\(code\))? => raw::fault\(rec, rx, msg, lent, (?P<number>\d+),', texts[SESSION]),
+        'features': found(r'(?P<name>\w+) = (?P<number>\d+),', section(texts[FEATURE], 'pub enum Feature', '\n}\n')),
+        'flags': found(r'pub const (?P<name>\w+): Self = Self\((?P<number>\w+)\);', texts[NUMBERS]),
+        'record': wanted(texts[RAW]),
+        'functions': dict(functions(texts[RAW])),
+    }
+
+
+def wanted(text):
+    read = re.search(r'number\((\d+)\)\.saturating_sub\(number\((\d+)\)\)', text)
+    return {'UNTIL': int(read[1]), 'TAIL': int(read[2])} if read else {}
