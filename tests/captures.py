@@ -4,7 +4,7 @@ the reply's meaning, and whether the service went on.
 
 - What our host writes is written byte for byte as the client of the recording wrote it.
 - Every reply is read by the session as it is meant, whole and in reads of one byte.
-- The request reader (the program `heard`) judges every request as the service did, but for those that docs/DIFFERENCES.md names.
+- The request reader (the program `heard_requests`) judges every request as the service did, but for those that docs/DIFFERENCES.md names.
 
 The last line is 'N passed, M failed'."""
 import copy
@@ -87,7 +87,7 @@ def altered(count, library, exchange):
 
 
 def heard(stream):
-    """The lines of `heard`, and whether the requests were read, one was refused, or one is unfinished."""
+    """The lines of `heard_requests`, and whether the requests were read, one was refused, or one is unfinished."""
     lines = subprocess.run([HEARD], input=stream, capture_output=True, check=True).stdout.decode().splitlines()
     last = lines[-1] if lines else ',more,0'
     return lines, 'refused' if last.endswith(',18') else 'unfinished' if ',more,' in last else 'read'

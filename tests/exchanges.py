@@ -92,7 +92,7 @@ def ours(stream):
 
 
 def fields(call):
-    """A call as `heard` prints its request."""
+    """A call as `heard_requests` prints its request."""
     name, lent, *numbers = *call, *[b''] * (len(call) == 1)
     if name in ('QUIT', 'SEND_DONE'):
         return ['QUIT'] if name == 'QUIT' else ['DONE', str(numbers[0])]

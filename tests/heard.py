@@ -1,4 +1,4 @@
-"""The program `heard` on streams of requests made here from SYNC.TXT and file_sync_protocol.h, with Python's struct module and none of the
+"""The program `heard_requests` on streams of requests made here from SYNC.TXT and file_sync_protocol.h, with Python's struct module and none of the
 library's code: requests of every kind and length, streams longer than its buffer, in pieces of every size, cut off anywhere and damaged.
 `heard.py --write` stores the program's example.
 

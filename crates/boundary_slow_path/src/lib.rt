@@ -1,4 +1,4 @@
-// The long way of a step: the session is loaded from its record, steps, and is stored again.
+// The slow path of a step: the session is loaded from its record, steps, and is stored again.
 ghost use mathlib.Core.Path.{_≡_};
 ghost use Rattle.boundary.specs.Crossing.{crossed, crossStart, crossWrote, crossFault};
 ghost use Rattle.boundary_slow_path.specs.Slow.{slowRead};

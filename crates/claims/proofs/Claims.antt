@@ -102,11 +102,11 @@ demand-3 = Boundary.demand-3
 pub every-host : EveryHost boundary
 every-host = Boundary.every-host
 
--- what is misplaced is refused by the table, and nothing else is (misuse/specs/Misuse)
+-- what is misplaced is refused by the table, and nothing else is (boundary_misuse/specs/Claim)
 pub misuse : Table.MisuseClaim
 misuse = Misuse.misuse
 
--- no reply names a part outside its slice, whoever wrote the record (bounds/specs/Bounds)
+-- no reply names a part outside its slice, whoever wrote the record (boundary_parts/specs/Bounds)
 pub parts-inside : PartsInside
 parts-inside = Bounds.parts-inside
 

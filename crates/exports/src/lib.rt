@@ -28,7 +28,7 @@ use record_store::store_tail;
 use session_calls::Opened;
 use session_calls::open;
 
-// What a step that goes the short way asks or tells.
+// What a step that takes a fast path asks or tells.
 const TOLD: u32 = 0;
 
 const READ: u32 = 1;
@@ -57,7 +57,7 @@ pub extern "C" fn yuglasno_open(rec: &mut [u8], banner: &[u8], rx: usize, msg: u
     }
 }
 
-// The next chunk of a pull, the short way where it can be; any other call the long way.
+// The next chunk of a pull, by its fast path where it can be; any other call by the slow one.
 fn start_next(
     rec: &mut [u8],
     rx: &mut [u8],
@@ -76,7 +76,7 @@ fn start_next(
     slow_start(rec, rx, msg, lent, call, a, b, out)
 }
 
-// Starts a call by its number, 1 to 14: a is its mode or its time, b its flags. What can be taken on the record's numbers goes the short way.
+// Starts a call by its number, 1 to 14: a is its mode or its time, b its flags. What can be taken on the record's numbers takes a fast path.
 #[no_mangle]
 pub extern "C" fn yuglasno_start(
     rec: &mut [u8],
@@ -99,7 +99,7 @@ pub extern "C" fn yuglasno_start(
     start_next(rec, rx, msg, lent, call, a, b, out)
 }
 
-// count bytes were read that leave no need short: of a chunk, the short way where it can be.
+// count bytes were read that leave no need short: of a chunk, by its fast path where it can be.
 fn read_met(
     rec: &mut [u8],
     rx: &mut [u8],
@@ -144,7 +144,7 @@ fn read_short(
     READ
 }
 
-// count bytes were read into the window. A stat's reply that they complete goes the short way too.
+// count bytes were read into the window. A stat's reply that they complete takes a fast path too.
 #[no_mangle]
 pub extern "C" fn yuglasno_read(
     rec: &mut [u8],
@@ -162,7 +162,7 @@ pub extern "C" fn yuglasno_read(
     read_short(rec, rx, msg, lent, count, out)
 }
 
-// The write or the close that was asked for was accepted: of DATA, the short way where it can be.
+// The write or the close that was asked for was accepted: of DATA, by its fast path where it can be.
 fn wrote_data(rec: &mut [u8], rx: &mut [u8], msg: &mut [u8], lent: &[u8], out: &mut [u8]) -> u32
     ensures { λ r. ⌜ crossed (now (rec .exit)) (now (rx .exit)) (now (msg .exit)) (now (out .exit)) r ≡ crossWrote (now (rec .entry)) (now (rx .entry)) (now (msg .entry)) (now (lent .entry)) (now (out .entry)) ⌝ }
 {
@@ -178,7 +178,7 @@ fn wrote_data(rec: &mut [u8], rx: &mut [u8], msg: &mut [u8], lent: &[u8], out: &
     slow_wrote(rec, rx, msg, lent, out)
 }
 
-// The same. A stat whose message is out awaits its reply the short way.
+// The same. A stat whose message is out awaits its reply by a fast path.
 #[no_mangle]
 pub extern "C" fn yuglasno_wrote(
     rec: &mut [u8],

@@ -1,4 +1,4 @@
-// The steps of a pull's chunk, taken at once on the numbers of a lent record (as in `direct`): its header is awaited, its body is awaited,
+// The steps of a pull's chunk, taken at once on the numbers of a lent record (as in `fast_replies`): its header is awaited, its body is awaited,
 // and it is told.
 ghost use mathlib.Core.Path.{_≡_};
 ghost use Prim.Native.Nat.{ℕ, _≤_};

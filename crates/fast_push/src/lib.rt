@@ -1,4 +1,4 @@
-// Steps that are taken at once, on the numbers of a lent record (as in `direct`): what follows an accepted write of a DATA message.
+// Steps that are taken at once, on the numbers of a lent record (as in `fast_replies`): what follows an accepted write of a DATA message.
 ghost use mathlib.Core.Path.{_≡_};
 ghost use Prim.Native.Nat.{_≤_};
 ghost use lib.Dec.{eqb};

@@ -1,5 +1,5 @@
-// Steps that are taken at once, on the numbers of a lent record: a short cut for loading its session, stepping it and storing it again.
-// Each is tried first. Where it is not taken nothing is altered, and the long way follows.
+// Steps that are taken at once, on the numbers of a lent record: the fast path for loading its session, stepping it and storing it again.
+// Each is tried first. Where it is not taken nothing is altered, and the slow path follows.
 ghost use mathlib.Core.List.{List};
 ghost use mathlib.Core.Path.{_≡_};
 ghost use Prim.Native.Nat.{ℕ, _≤_};

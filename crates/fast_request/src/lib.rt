@@ -1,5 +1,5 @@
-// A call that carries a path alone (stat, stat_v2, list, list_v2, recv) started at once, on the numbers of a lent record (as in `direct`):
-// its message goes out whole, behind the held bytes. Where it is refused or does not fit nothing is altered, and the long way follows.
+// A call that carries a path alone (stat, stat_v2, list, list_v2, recv) started at once, on the numbers of a lent record (as in `fast_replies`):
+// its message goes out whole, behind the held bytes. Where it is refused or does not fit nothing is altered, and the slow path follows.
 ghost use mathlib.Core.Path.{_≡_};
 ghost use Prim.Native.Nat.{ℕ, _≤_};
 ghost use lib.ListN.{length};

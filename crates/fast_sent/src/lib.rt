@@ -1,4 +1,4 @@
-// A stat's message is out: the header of its reply is awaited at once, on the numbers of a lent record (as in `direct`).
+// A stat's message is out: the header of its reply is awaited at once, on the numbers of a lent record (as in `fast_replies`).
 ghost use mathlib.Core.Path.{_≡_};
 ghost use Prim.Native.Nat.{_≤_};
 ghost use lib.ListN.{length};
