@@ -93,7 +93,7 @@ def papers():
     for folder, pattern in (('rust/yuglasno/src', '**/*.rs'), ('include', '*.h'), ('examples', '*.c')):
         for path in sorted(pathlib.Path(folder).glob(pattern)):
             for number, line in enumerate(path.read_text().split('\n'), 1):
-                if re.search(r'[Dd]ocument 01|(?<![\d.,_])000(?!\d)', line):
+                if re.search(r'[Dd]ocument 0[12]|(?<![\d.,_])000(?!\d)', line):
                     faults.append(f'{path}:{number}: names a paper that a user does not have')
 
 

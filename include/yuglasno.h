@@ -53,7 +53,7 @@ extern "C" {
 #define YUGLASNO_REPLY 112      /* bytes of a slice that takes any reply */
 #define YUGLASNO_DATA_MOST 65536 /* the most bytes in one DATA message */
 #define YUGLASNO_CAPACITY 65544 /* bytes of a receive buffer that takes every DATA message, with its header */
-#define YUGLASNO_PATH_MOST 65536 /* the most bytes of a path */
+#define YUGLASNO_PATH_MOST 1024 /* the most bytes of a path */
 
 /* The calls. lent is the path, or DATA's data; NEXT_ENTRY and the other calls without either may be lent anything, such as NULL.
  * a is the mode of a push or SEND_DONE's time, b the flags of a v2 transfer; where a call has neither they are not looked at. */

@@ -136,7 +136,7 @@ def main():
                 altered(count, library, exchange)
     count.check(not table, f'docs/DIFFERENCES.md names what was not recorded: {list(table)}')
     ours = sum(bool(exchange.calls) for exchange in recorded)
-    count.check((len(recorded), ours) == (108, 75), f'{len(recorded)} exchanges, {ours} of them ours')
+    count.check((len(recorded), ours) == (108, 73), f'{len(recorded)} exchanges, {ours} of them ours')
     print(f'captures: {len(recorded)} exchanges; of {ours} our host writes every request')
     count.finish()
 

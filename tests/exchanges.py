@@ -11,7 +11,7 @@ PATH_ONLY = {b'STAT': 'STAT', b'STA2': 'STAT_V2', b'LIST': 'LIST', b'LIS2': 'LIS
 V2 = {b'RCV2': ('RECV_V2', 8), b'SND2': ('SEND_V2', 12)}
 IDS = {name: id_.decode() for id_, name in PATH_ONLY.items()} | {'RECV_V2': 'RCV2', 'SEND': 'SEND', 'SEND_V2': 'SND2', 'DATA': 'DATA'}
 ONE_PACKING, DRY_RUN, KNOWN = (0, 1, 2, 4), 0x80000000, 0x80000007
-PATH_MOST = DATA_MOST = 65536
+PATH_MOST, DATA_MOST = 1024, 65536
 FAIL, UNEXPECTED, ERRNO = (host.ANSWER[name] for name in ('FAIL', 'UNEXPECTED', 'ERRNO'))
 LST2 = int.from_bytes(b'LST2', 'little')
 # the FAILs that say that a request is not well formed, and those that say that it did not come whole

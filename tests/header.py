@@ -19,7 +19,6 @@ REFUSED = set(in_definitions.REFUSALS)
 WITHOUT = {
     ('rust', 'answers'): {'OK', 'BAD_REQUEST'},
     ('rust', 'kinds'): {'OTHER'},
-    ('rust', 'lengths'): {'PATH_MOST'},
     ('definitions', 'lengths'): {'CAPACITY'},
     ('definitions', 'flags'): {'NONE'},
     ('definitions', 'faults'): {'ERROR'},

@@ -22,7 +22,7 @@ from counted import Count
 ROOT = pathlib.Path(__file__).resolve().parent.parent
 CRATE = ROOT / 'crates' / 'heard_requests'
 PROGRAM = ROOT / 'target' / 'bin' / 'heard_requests'
-PATH_MOST = DATA_MOST = 65536
+PATH_MOST, DATA_MOST = 1024, 65536
 BUFFER = 131072
 
 
@@ -80,6 +80,13 @@ LONGEST = [
     send(b'r' * PATH_MOST, 4294967295),
     snd2(b's' * PATH_MOST, 4294967295, 4),
     data(bytes(range(256)) * (DATA_MOST // 256)),
+]
+
+# headers at the limits: id, arg, and whether it is 18 by them
+HEADERS = [
+    *((name, PATH_MOST + over, over > 0) for name in (b'STAT', b'STA2', b'LIST', b'LIS2', b'RECV', b'RCV2', b'SND2') for over in (0, 1, 10, 11)),
+    *((b'SEND', PATH_MOST + over, over > 11) for over in (0, 1, 10, 11, 12)),
+    *((b'DATA', length, length > DATA_MOST) for length in (PATH_MOST + 1, PATH_MOST + 12, DATA_MOST, DATA_MOST + 1)),
 ]
 
 # the mode of a SEND with a leading zero is answered 18
@@ -152,14 +159,31 @@ def cut_off(count):
         count.check(run(whole[:length]) == printed(REQUESTS, length), f'cut off at {length}')
     for requests in ([q] for q in LONGEST):
         whole = stream(requests)
-        for length in (7, 8, 65535, 65536, 65537, len(whole) - 1, len(whole)):
+        lengths = {7, 8, PATH_MOST, DATA_MOST - 1, DATA_MOST, DATA_MOST + 1, len(whole) - 1, len(whole)}
+        for length in sorted(n for n in lengths if n <= len(whole)):
             count.check(run(whole[:length]) == printed(requests, length), f'{whole[:4]} cut off at {length}')
+
+
+def limits(count):
+    """The limits of paths and of DATA: on the header alone, and of a SEND's path on the whole message."""
+    for name, arg, refused in HEADERS:
+        header = name + struct.pack('<I', arg)
+        count.check(run(header) == (b'0,18\n' if refused else b'0,more,8\n'), f'{name} with arg {arg}')
+    for length in range(PATH_MOST - 2, PATH_MOST + 11):
+        for mode in (0, 33188, 4294967295):
+            message, fields = send(b'p' * length, mode)
+            refused = length > PATH_MOST
+            expected = f"0,{'18' if refused else ','.join(fields)}\n".encode()
+            count.check(run(message) == expected, f'a SEND of {length} bytes, mode {mode}')
+            early = len(message) - 8 > PATH_MOST + 11
+            cut = f"0,{'18' if early else f'more,{len(message) - 1}'}\n".encode()
+            count.check(run(message[:-1]) == cut, f'a SEND of {length} bytes, mode {mode}, but for its last byte')
 
 
 def long_streams(count):
     chosen = random.Random(1998)
     every = [*REQUESTS[:-1], *LONGEST]
-    cases = {'twice the longest': LONGEST * 2, 'many small ones': REQUESTS * 4000, 'at random': [chosen.choice(every) for _ in range(60)]}
+    cases = {'the longest': LONGEST * 4, 'many small ones': REQUESTS * 4000, 'at random': [chosen.choice(every) for _ in range(120)]}
     for name, requests in cases.items():
         whole = stream(requests)
         count.check(len(whole) > 2 * BUFFER, f'{name}: {len(whole)} bytes are too few')
@@ -195,6 +219,7 @@ def main():
     count = Count('heard')
     example(count)
     cut_off(count)
+    limits(count)
     long_streams(count)
     unreadable(count)
     count.finish()

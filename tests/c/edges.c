@@ -111,6 +111,8 @@ static void refusals(void) {
   CHECK(word(YUGLASNO_AT_KIND) == YUGLASNO_KIND_OTHER && word(YUGLASNO_AT_NUMBER) == YUGLASNO_FEATURE_LS_V2);
   REFUSED(NOT_AWAITED, yuglasno_start(SESSION, NULL, 0, YUGLASNO_CALL_RECV_NEXT + 1, 0, 0, REPLY));
   REFUSED(NOT_AWAITED, yuglasno_wrote(SESSION, NULL, 0, REPLY));
+  CHECK(yuglasno_start(SESSION, path, YUGLASNO_PATH_MOST, YUGLASNO_CALL_STAT, 0, 0, REPLY) == YUGLASNO_WHAT_WRITE_BYTES);
+  CHECK(word(0) == 8 && memcmp(out + 8, "STAT\0\4\0\0", 8) == 0);
 }
 
 /* While a read is awaited. */

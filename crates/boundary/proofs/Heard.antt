@@ -12,7 +12,7 @@ use lib.Dec.{ltb}
 use lib.ListN.{length, getD, take, drop, length-append}
 use lib.Seq.{take-append-seam}
 use Rattle.protocol.specs.Answers as P
-use Rattle.protocol.specs.Bytes.{Bytes, le, bytesOf, numberAt, over, put}
+use Rattle.protocol.specs.Bytes.{Bytes, bytesOf, numberAt, over, put}
 use Rattle.protocol.specs.Ids.{letters}
 use Rattle.protocol.specs.Messages.{word}
 use Rattle.protocol.proofs.Bytes.{bytesOf-le, length-bytesOf, put-in}

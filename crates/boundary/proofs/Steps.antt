@@ -17,7 +17,7 @@ use Rattle.protocol.specs.Messages.{bytesOfRequest, dataMost}
 use Rattle.protocol.proofs.Bodies.{pick-cases}
 use Rattle.protocol.proofs.Bytes.{bytes-drop, over-length, put-in}
 use Rattle.protocol.proofs.Words.{bytes-take}
-use Rattle.request_piece.specs.Pieces.{partsOf, pieceList, pieceOf}
+use Rattle.request_piece.specs.Pieces.{pieceList, pieceOf}
 use Rattle.request_piece.specs.declared.Piece.{Piece}
 use Rattle.request_piece.specs.declared.Piece.the-variants as P
 use Rattle.record.specs.Fields.{startsIn}

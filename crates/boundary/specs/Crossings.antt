@@ -13,9 +13,14 @@ use Rattle.protocol.specs.Bytes.{ascii}
 use Rattle.protocol.specs.Calls.{v1, v2, Call, call, nextEntry, nextChunk}
 use Rattle.protocol.specs.Fact.{Fact}
 use Rattle.protocol.specs.Messages.{ask, stat, sta2, list, lis2, recv, rcv2, send, snd2, chunk, done, quit}
-use Rattle.record.specs.Record.{size}
+use Rattle.record.specs.Record.{size, stored}
+use Rattle.request.specs.declared.Request.the-variants as Q
 use Rattle.session.specs.Host.{Spare, Show, told, read, writeRx, writeLent, writeBytes, close, lentOf}
 use Rattle.boundary.specs.Boundary.{callNumber, firstNumber, flagNumber, endKind, endCode}
+use Rattle.session.specs.Resuming as Resuming
+use Rattle.session.specs.declared.Pending.{Pending}
+use Rattle.session.specs.declared.Pending.the-variants.{Idle, Writing}
+use Rattle.boundary.specs.Crossing.{Crossed, crossStart, crossRead, crossWrote, crossFault}
 use Rattle.boundary.specs.Heard.{heard}
 use Rattle.boundary.specs.Told.{outSize}
 
@@ -70,6 +75,30 @@ sizes =
     ∷ numbered (endCode spare (error 9)) 9
     ∷ numbered size 192
     ∷ numbered outSize 112
+    ∷ []
+
+-- ---- a path over the limit that is pending goes on, and the next call is 7 (session/specs/Resuming): what each function returns
+
+abbrev recordAt : Pending → List ℕ
+recordAt p = stored (Resuming.sessionAt p .ses)
+
+abbrev slice : List ℕ
+slice = replicate outSize 0
+
+abbrev wrote : (piece : ℕ) → Crossed
+wrote k = crossWrote (recordAt (Writing Q.Stat 0 k)) Resuming.rx Resuming.msg Resuming.path slice
+
+abbrev reads : (count : ℕ) → Crossed
+reads k = crossRead (recordAt Resuming.awaiting) Resuming.rx Resuming.msg Resuming.path k slice
+
+abbrev pub longPending : List (Fact ℕ)
+longPending =
+    numbered (wrote 1 .number) 3
+    ∷ numbered (wrote 2 .number) 1
+    ∷ numbered (reads 3 .number) 1
+    ∷ numbered (reads 16 .number) 0
+    ∷ numbered (crossFault (recordAt Resuming.awaiting) Resuming.rx Resuming.msg Resuming.path 1 5 slice .number) (256 * 13)
+    ∷ numbered (crossStart (recordAt Idle) Resuming.rx Resuming.msg Resuming.path 1 0 0 slice .number) (256 * 7)
     ∷ []
 
 -- ---- from the library

@@ -6,12 +6,11 @@ use mathlib.Core.List.{List, [], _∷_, _++_, map}
 use mathlib.Core.Logic.{_⊎_}
 use mathlib.Core.Option.{none, some}
 use mathlib.Core.Path.{_≡_}
-use lib.IntN.{pos, negsuc}
 use lib.ListN.{length, getD, take, drop}
 use Rattle.protocol.specs.Answers as A
 use Rattle.protocol.specs.Answers.{End}
 use Rattle.protocol.specs.Banners as BannerFacts
-use Rattle.protocol.specs.Bytes.{Bytes, ascii, le, bytesOf, signed, put}
+use Rattle.protocol.specs.Bytes.{Bytes, ascii, put}
 use Rattle.protocol.specs.Calls.{Call, messages}
 use Rattle.protocol.specs.Refusal.{Setting, refusal}
 use Rattle.protocol.specs.Decimal.{decimal, canonical}
@@ -20,13 +19,14 @@ use Rattle.protocol.specs.Features.{featuresOf}
 use Rattle.protocol.specs.Flags.{refusedFlags}
 use Rattle.protocol.specs.Headers.{Accepted, Heads}
 use Rattle.protocol.specs.Ids.{Id, Dialect, Sound, named, published}
-use Rattle.protocol.specs.Limits.{Limits}
+use Rattle.protocol.specs.Layouts as LayoutFacts
+use Rattle.protocol.specs.Limits as LimitFacts
 use Rattle.protocol.specs.Losses as LossFacts
 use Rattle.protocol.specs.Messages.{Request, chunk, snd2, joined, bytesOfRequest, pieces, HostWrites}
 use Rattle.protocol.specs.Numbers as NumberFacts
 use Rattle.protocol.specs.Reader.{Config, plainAnswers, plainWrites}
 use Rattle.protocol.specs.Received as ReceiveFacts
-use Rattle.protocol.specs.Records.{idAt, argAt, dentAt, dent2At}
+use Rattle.protocol.specs.Records.{idAt, argAt}
 use Rattle.protocol.specs.Refusals.{Row, rows, settingAt}
 use Rattle.protocol.specs.Replies as ReplyFacts
 use Rattle.protocol.specs.Requests.{more, refused, request, readRequest}
@@ -36,12 +36,12 @@ use Rattle.protocol.proofs.Banners as Banners
 use Rattle.protocol.proofs.Decimal as Decimal
 use Rattle.protocol.proofs.Flags as Flags
 use Rattle.protocol.proofs.Ids as Ids
-use Rattle.protocol.proofs.Limits as LimitLaws
+use Rattle.protocol.proofs.Layouts as Layouts
+use Rattle.protocol.proofs.Limits as Limits
 use Rattle.protocol.proofs.Losses as Losses
 use Rattle.protocol.proofs.Messages as Messages
 use Rattle.protocol.proofs.Numbers as Numbers
 use Rattle.protocol.proofs.Received as Received
-use Rattle.protocol.proofs.Records as Records
 use Rattle.protocol.proofs.Refusals as Refusals
 use Rattle.protocol.proofs.Replies as Replies
 use Rattle.protocol.proofs.Requests as Requests
@@ -70,12 +70,14 @@ use Rattle.session.specs.Demand3.{Claim}
 use Rattle.session.specs.EveryHost.{EveryHost}
 use Rattle.session.specs.Places as PlaceFacts
 use Rattle.session.specs.Examples.{Examples}
+use Rattle.session.specs.Resuming as ResumeFacts
 use Rattle.session.specs.Scripted as LogFacts
 use Rattle.session.specs.declared.Reply.{Reply}
 use Rattle.session.specs.declared.Session.{Session}
 use Rattle.session.proofs.Demand3 as Core
 use Rattle.session.proofs.Places as Places
 use Rattle.session.proofs.Examples as Logs
+use Rattle.session.proofs.Resuming as Resuming
 use Rattle.session.proofs.Scripted as Scripted
 use Rattle.boundary.specs.Boundary.{boundary}
 use Rattle.boundary.specs.Crossings as CrossFacts
@@ -222,15 +224,18 @@ ids-hold = Received.ids-hold
 pub readings-hold : Hold ReadFacts.numbers × Hold ReadFacts.meanings
 readings-hold = Reading.answers-hold
 
--- the answers' numbers, flag words, both limits
+-- the answers' numbers, flag words, the limits of paths and data
 pub told-holds : Hold NumberFacts.told
 told-holds = Numbers.told-holds
 
 pub words-hold : Hold NumberFacts.words
 words-hold = Numbers.words-hold
 
-pub limits : Limits
-limits = LimitLaws.limits
+pub limits : LimitFacts.Limits
+limits = Limits.limits
+
+pub lengths-hold : Hold LimitFacts.lengths
+lengths-hold = Limits.lengths-hold
 
 -- when a call compacts, where its windows lie, how its pieces go out, what it closes, which text it keeps; a code's answer on paper
 pub moments-hold : Hold PlaceFacts.moments
@@ -247,6 +252,13 @@ texts-hold = Places.texts-hold
 
 pub answers-hold : Hold PlaceFacts.answers
 answers-hold = Places.answers-hold
+
+-- a path over the limit that is pending, in the session and across the boundary
+pub resuming-holds : Hold ResumeFacts.resuming
+resuming-holds = Resuming.resuming-holds
+
+pub long-pending-hold : Hold CrossFacts.longPending
+long-pending-hold = Crossings.long-pending-hold
 
 -- what the host logs of a session; logs that the claim of every host takes, and logs with one thing wrong; two answers compared
 pub logs-hold : Hold LogFacts.logs
@@ -272,34 +284,11 @@ pub afterwards-hold : Hold CaseFacts.afterwards
 afterwards-hold = Cases.afterwards-hold
 
 -- bytes and the numbers that they spell; records field by field; flag words
-pub little-endian : (map (λ r. le (r .0)) Records.spellings ≡ map (λ r. r .1) Records.spellings)
-    × (map (λ r. bytesOf (length (r .0)) (r .1)) Records.spellings ≡ map (λ r. r .0) Records.spellings)
-    × (map (λ r. signed (le (r .0))) Records.signs ≡ map (λ r. r .1) Records.signs)
-little-endian = Records.little-endian
+pub little-endian : Hold LayoutFacts.readNumbers × Hold LayoutFacts.writtenNumbers × Hold LayoutFacts.signs
+little-endian = Layouts.little-endian
 
-pub layouts : (dentAt (ascii "DENT" ++ bytesOf 4 33188 ++ bytesOf 4 1998 ++ bytesOf 4 5 ++ bytesOf 4 3 ++ ascii "T98")
-    ≡ record { stat = record { mode = 33188; size = 1998; mtime = 5 }; namelen = 3 })
-    × (dent2At (ascii "DNT2" ++ bytesOf 4 2 ++ bytesOf 8 0xfd01 ++ bytesOf 8 0x1_0000_0007
-    ++ bytesOf 4 33188 ++ bytesOf 4 1 ++ bytesOf 4 1000 ++ bytesOf 4 1004 ++ bytesOf 8 5_000_000_000
-    ++ bytesOf 8 0xffff_ffff_ffff_ffff ++ bytesOf 8 1_700_000_000 ++ bytesOf 8 1_700_000_001
-    ++ bytesOf 4 3 ++ ascii "T98")
-    ≡ record {
-      stat = record {
-        error = 2;
-        dev = 0xfd01;
-        ino = 0x1_0000_0007;
-        mode = 33188;
-        nlink = 1;
-        uid = 1000;
-        gid = 1004;
-        size = 5_000_000_000;
-        atime = negsuc 0;
-        mtime = pos 1_700_000_000;
-        ctime = pos 1_700_000_001;
-      };
-      namelen = 3;
-    })
-layouts = Records.layouts
+pub layouts : Hold LayoutFacts.entries × Hold LayoutFacts.entries2
+layouts = Layouts.layouts
 
 pub refusals : map (λ w. (refusedFlags false (w .0), refusedFlags true (w .0))) Flags.words ≡ map (λ w. w .1) Flags.words
 refusals = Flags.refusals

@@ -5,7 +5,7 @@ use mathlib.Core.Path.{_≡_, refl, sym, ap, _∙_}
 use Prim.Native.Nat.{ℕ, _+_, _-_, _≤_, _<_}
 use native.Mathlib.Omega.{arith}
 use borrow.Author.Tests.{ne-eqb, eqb-true, ltb-true, leb-true, leb-false, not-true}
-use lib.Dec.{eqb, ltb, leb}
+use lib.Dec.{eqb, ltb}
 use lib.ListN.{length, drop, getD, length-take}
 use Rattle.protocol.specs.Bytes.{pick, put}
 use Rattle.protocol.specs.Ids.{published, letters, DATA}
@@ -20,7 +20,6 @@ use Rattle.request_message.specs.Composed.{placed}
 use Rattle.request_piece.proofs.Laws.{piece-part}
 use Rattle.request_piece.specs.Pieces.{headerOf, pieceList, pieceOf}
 use Rattle.request_piece.specs.declared.Piece.the-variants.{Lent, End}
-use Rattle.record.specs.Record.{loaded}
 use Rattle.recv_buf.proofs.Laws.{compacted-front}
 use Rattle.recv_buf.specs.RecvBuf.{cursor, compacted}
 use Rattle.request.specs.Meaning.{meant}

@@ -240,7 +240,7 @@ fn print_stream(buffer: &mut [u8]) {
     }
 }
 
-// Room for the longest request, an SND2 of 65,556 bytes, and as much again.
+// Room for the longest request, a DATA of 65,544 bytes, and nearly as much again.
 fn main() {
     let mut buffer = [0u8; 131072];
     print_stream(&mut buffer);

@@ -12,6 +12,7 @@ pub mod Trials
 pub mod Refusals
 pub mod Unrefused
 pub mod Fact
+pub mod Layouts
 pub mod Replies
 pub mod Losses
 pub mod Written

@@ -1,20 +1,21 @@
 -- The facts of `specs/Limits.antt` hold. Assumes nothing.
 use Prim.Native.Nat.{ℕ, zero, suc, _+_, _-_, _≤_, _<_}
-use mathlib.Core.Bool.{Bool, false}
-use mathlib.Core.List.{List, [], _∷_, _++_}
-use mathlib.Core.Option.{none, some}
+use mathlib.Core.List.{List, [], _∷_, _++_, append-nil}
 use mathlib.Core.Path.{_≡_, refl, sym, ap, _∙_}
 use native.Mathlib.Omega.{arith}
 use borrow.Author.Tests.{lt-ltb, le-ltb}
 use lib.ListN.{length, take, drop, length-append, length-drop, drop-of-length-le}
 use lib.Seq.{take-at, drop-at, take-all}
-use Rattle.protocol.specs.Answers.{refused}
-use Rattle.protocol.specs.Bytes.{has}
-use Rattle.protocol.specs.Calls.{call, messages, cutBy, cut, chunks}
-use Rattle.protocol.specs.Refusal.{pathRefusal}
-use Rattle.protocol.specs.Ids.{published}
-use Rattle.protocol.specs.Limits.{Limits}
-use Rattle.protocol.specs.Messages.{chunk, dataMost}
+use Rattle.protocol.specs.Bytes.{ascii}
+use Rattle.protocol.specs.Calls.{messages, cutBy, cut, chunks}
+use Rattle.protocol.specs.Fact.{Hold}
+use Rattle.protocol.specs.Flags.{refusedFlags, several, unknown, dryRun}
+use Rattle.protocol.specs.Decimal.{decimal, canonical}
+use Rattle.protocol.specs.Refusal.{pathRefusal, flagRefusal, featureRefusal, transferRefusal, requestRefusal, refusal}
+use Rattle.protocol.specs.Limits.{Limits, lengths}
+use Rattle.protocol.specs.Messages.{dataMost, bytesOfRequest, messageOf}
+use Rattle.protocol.specs.Reader.{writes}
+use Rattle.protocol.proofs.Decimal.{decimal-canonical}
 
 -- more steps than bytes come to the same parts
 cut-enough : (f g : ℕ) (x : List ℕ) → length x ≤ f → length x ≤ g → cutBy f x ≡ cutBy g x
@@ -46,12 +47,24 @@ cut-more : (x rest : List ℕ) → length x ≡ 65536 → cut (x ++ rest) ≡ x 
 cut-more x rest l =
     cut-step (x ++ rest) (omega (arith, length-append x rest)) ∙ rw (take-at x rest dataMost l, drop-at x rest dataMost l)
 
+pub lengths-hold : Hold lengths
+unfolding refusal requestRefusal pathRefusal flagRefusal featureRefusal transferRefusal refusedFlags several unknown dryRun
+lengths-hold = refl
+
+ten-digits : decimal 4294967295 ≡ ascii "4294967295"
+unfolding canonical
+ten-digits = let (e, small) = decimal-canonical (ascii "4294967295") 4294967295 refl in sym e
+
 pub limits : Limits
-unfolding pathRefusal messages
+unfolding pathRefusal requestRefusal refusal messages writes bytesOfRequest messageOf
 limits =
     record {
       path-fits = λ p l z. rw (le-ltb _ _ l, z);
       path-over = λ p l. rw (lt-ltb _ _ l);
+      longest-asked = λ p l z. rw (l, z, append-nil p, append-nil p);
+      longest-sent = λ p l z. rw (l, z, ten-digits, append-nil (p ++ ascii ",4294967295"));
+      over-unwritten = λ p l. rw (lt-ltb _ _ l);
+      data-unrefused = λ x. refl;
       data-none = ap chunks cut-none;
       data-one = λ x n l. ap chunks (cut-one x n l);
       data-more = λ x rest l. ap chunks (cut-more x rest l);

@@ -1,19 +1,18 @@
--- Laws of `specs/Records.antt`: the numbers that a record's bytes spell, each at its offset, and what pins how bytes spell
--- them and where they stand.
+-- Laws of `specs/Records.antt`: the numbers that a record's bytes spell, each at its offset.
 -- Assumes nothing.
 use mathlib.Core.Bool.{Bool, true, false}
-use mathlib.Core.List.{List, [], _∷_, _++_, map}
+use mathlib.Core.List.{List, [], _∷_, _++_}
 use mathlib.Core.Path.{_≡_, refl, sym, ap, _∙_}
 use Prim.Native.Nat.{ℕ, suc, _+_, _-_, _*_, _^_, _≤_, _<_}
 use native.Mathlib.Nat.{mul-assoc, pow-suc}
 use native.Mathlib.Omega.{arith}
 use borrow.Author.Tests.{lt-ltb, le-ltb}
 use lib.Dec.{leb}
-use lib.IntN.{ℤ, pos, negsuc}
+use lib.IntN.{pos, negsuc}
 use lib.ListN.{length, take, drop, getD, length-drop}
 use lib.Seq.{drop-cons, drop-drop, take-add, length-take-le}
-use Rattle.protocol.specs.Bytes.{pick, ascii, le, bytesOf, numberAt, signed, whole}
-use Rattle.protocol.specs.Records.{u32At, u64At, i64At, idAt, statAt, dentAt, stat2Body, dent2At}
+use Rattle.protocol.specs.Bytes.{pick, le, numberAt, signed, whole}
+use Rattle.protocol.specs.Records.{u32At, u64At, i64At, idAt}
 use Rattle.protocol.proofs.Bytes.{le4, whole-in}
 
 -- a field of a record of n bytes that are all there: k bytes at o, read for themselves
@@ -96,55 +95,3 @@ i64-whole s off = go (leb (off + 8) (length s))
     go : (b : Bool) → pick b (i64At 0 (drop off s)) (pos 0) ≡ signed (pick b (u64At 0 (drop off s)) 0)
     go true = refl
     go false = sym (signed-low 0 (omega arith))
-
--- Bytes and the number that they spell: four, then eight.
-abbrev pub spellings : List (List ℕ × ℕ)
-spellings =
-    (0x01 ∷ 0x02 ∷ 0x03 ∷ 0xf4 ∷ [], 0xf403_0201)
-    ∷ (0xe8 ∷ 0x07 ∷ 0x5d ∷ 0x20 ∷ [], 542967784)
-    ∷ (0x01 ∷ 0x02 ∷ 0x03 ∷ 0x04 ∷ 0x05 ∷ 0x06 ∷ 0x07 ∷ 0xf8 ∷ [], 0xf807_0605_0403_0201)
-    ∷ (0xff ∷ 0xff ∷ 0xff ∷ 0xff ∷ 0xff ∷ 0xff ∷ 0xff ∷ 0xff ∷ [], 0xffff_ffff_ffff_ffff)
-    ∷ []
-
--- Eight bytes and the signed number that they are: the two ends, -1, and a number of each sign.
-abbrev pub signs : List (List ℕ × ℤ)
-signs =
-    (0xff ∷ 0xff ∷ 0xff ∷ 0xff ∷ 0xff ∷ 0xff ∷ 0xff ∷ 0xff ∷ [], negsuc 0)
-    ∷ (0x00 ∷ 0x00 ∷ 0x00 ∷ 0x00 ∷ 0x00 ∷ 0x00 ∷ 0x00 ∷ 0x80 ∷ [], negsuc 0x7fff_ffff_ffff_ffff)
-    ∷ (0xff ∷ 0xff ∷ 0xff ∷ 0xff ∷ 0xff ∷ 0xff ∷ 0xff ∷ 0x7f ∷ [], pos 0x7fff_ffff_ffff_ffff)
-    ∷ (0x18 ∷ 0xfc ∷ 0xff ∷ 0xff ∷ 0xff ∷ 0xff ∷ 0xff ∷ 0xff ∷ [], negsuc 999)
-    ∷ (0x01 ∷ 0x02 ∷ 0x03 ∷ 0x04 ∷ 0x05 ∷ 0x06 ∷ 0x07 ∷ 0x08 ∷ [], pos 0x0807_0605_0403_0201)
-    ∷ []
-
--- "all binary integers are Little-Endian in the sync mode" (SYNC.TXT): read, written, and read as a signed time
-pub little-endian : (map (λ r. le (r .0)) spellings ≡ map (λ r. r .1) spellings)
-    × (map (λ r. bytesOf (length (r .0)) (r .1)) spellings ≡ map (λ r. r .0) spellings)
-    × (map (λ r. signed (le (r .0))) signs ≡ map (λ r. r .1) signs)
-unfolding signed
-little-endian = (refl, refl, refl)
-
--- The layouts of file_sync_protocol.h, field behind field, each of its width: an entry of each version, which holds a stat.
-pub layouts : (dentAt (ascii "DENT" ++ bytesOf 4 33188 ++ bytesOf 4 1998 ++ bytesOf 4 5 ++ bytesOf 4 3 ++ ascii "T98")
-    ≡ record { stat = record { mode = 33188; size = 1998; mtime = 5 }; namelen = 3 })
-    × (dent2At (ascii "DNT2" ++ bytesOf 4 2 ++ bytesOf 8 0xfd01 ++ bytesOf 8 0x1_0000_0007
-    ++ bytesOf 4 33188 ++ bytesOf 4 1 ++ bytesOf 4 1000 ++ bytesOf 4 1004 ++ bytesOf 8 5_000_000_000
-    ++ bytesOf 8 0xffff_ffff_ffff_ffff ++ bytesOf 8 1_700_000_000 ++ bytesOf 8 1_700_000_001
-    ++ bytesOf 4 3 ++ ascii "T98")
-    ≡ record {
-      stat = record {
-        error = 2;
-        dev = 0xfd01;
-        ino = 0x1_0000_0007;
-        mode = 33188;
-        nlink = 1;
-        uid = 1000;
-        gid = 1004;
-        size = 5_000_000_000;
-        atime = negsuc 0;
-        mtime = pos 1_700_000_000;
-        ctime = pos 1_700_000_001;
-      };
-      namelen = 3;
-    })
-unfolding dentAt statAt dent2At stat2Body numberAt signed
-layouts = (refl, refl)

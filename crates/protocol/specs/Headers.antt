@@ -15,7 +15,8 @@ pub record Accepted (d : Dialect) (s : List ℕ) (q : Request) (n : ℕ) : Type 
   pub within : n ≤ length s
 
 -- The headers that are not 18, and how long a message with such a header is: "18 if the id is none of the host's eleven (the eight
--- requests above, DATA, DONE, QUIT), if arg exceeds 65,536 (65,547 for SEND), or QUIT's arg isn't 0; DONE's arg is free".
+-- requests above, DATA, DONE, QUIT), if arg exceeds" 1,024 (SEND 1,035, DATA 65,536: document 02, [2]), "or QUIT's arg isn't 0; DONE's arg
+-- is free".
 pub data Heads (d : Dialect) (arg : ℕ) : Id → (size : ℕ) → Type 0 where
   of-path : (i : PathOnly) → arg ≤ d .longest → Heads d arg (pathId i) (8 + arg)
   of-RCV2 : arg ≤ d .longest → Heads d arg RCV2 (8 + (arg + 8))

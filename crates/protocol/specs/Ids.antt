@@ -35,9 +35,9 @@ pub record Dialect : Type 0 where
   pub bytes : Id → List ℕ
   pub longest : ℕ
 
--- the one of the public documents, and document 01's limit
+-- the one of the public documents, with document 02's limit for paths ([2]: "The limit for paths becomes 1,024"; file_sync_protocol.h: "<= 1024")
 abbrev pub published : Dialect
-published = record { bytes = letters; longest = 65536 }
+published = record { bytes = letters; longest = 1024 }
 
 -- no two ids have the same bytes
 abbrev pub Apart : Dialect → Type 0

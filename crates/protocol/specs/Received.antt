@@ -1,18 +1,18 @@
--- Facts on the panel's request reader, on bytes that AOSP's service was sent (captures.jsonl, by the label given) or that document 01 names:
--- "Under 8 bytes: more. Then 18 if the id is none of the host's eleven .., if arg exceeds 65,536 (65,547 for SEND), or QUIT's arg isn't 0;
--- DONE's arg is free. Then more until the message is whole. Then 18 for a path with NUL or over 65,536, an inner id that differs, flags the
--- host would refuse with 9, a SEND with no comma or whose text after the last comma isn't canonical decimal of a u32."
+-- Facts on the panel's request reader, on bytes that AOSP's service was sent (captures.jsonl, by the label given) or that a document names. 01:
+-- "Under 8 bytes: more. Then 18 if the id is none of the host's eleven .., if arg exceeds" its limit, "or QUIT's arg isn't 0; DONE's arg is
+-- free. Then more until the message is whole. Then 18 for a path with NUL or over" the limit, "an inner id that differs, flags the host would
+-- refuse with 9, a SEND with no comma or whose text after the last comma isn't canonical decimal of a u32." The limits, 02's [2]: "SEND's
+-- largest arg becomes 1,035, that of the other path requests 1,024; DATA keeps 65,536".
 -- Assumes nothing.
 use Prim.Native.Nat.{ℕ, _-_}
 use mathlib.Core.List.{List, [], _∷_, _++_, map}
 use mathlib.Core.Option.{Option, none, some}
-use lib.ListN.{length, take}
+use lib.ListN.{take, replicate}
 use Rattle.protocol.specs.Bytes.{ascii}
 use Rattle.protocol.specs.Decimal.{canonical}
 use Rattle.protocol.specs.Fact.{Fact}
 use Rattle.protocol.specs.Ids.{Id, all, letters, named, published}
 use Rattle.protocol.specs.Messages.{ask, stat, sta2, list, lis2, recv, Request, rcv2, send, snd2, chunk, done, quit}
-use Rattle.protocol.specs.Replies.{counting}
 use Rattle.protocol.specs.Requests.{Read, more, refused, request, readRequest}
 
 abbrev row : List ℕ → Read → Fact Read
@@ -52,7 +52,27 @@ messages =
     ++ message (ascii "DONE" ++ 0xff ∷ 0xff ∷ 0xff ∷ 0xff ∷ []) (done 0xffff_ffff) 8
     ++ message (ascii "QUIT" ++ 0 ∷ 0 ∷ 0 ∷ 0 ∷ []) quit 8
 
--- both limits, on headers alone: the arg by its bytes, and whether it is 18
+-- the longest path, in a message that is read whole, and more while its last byte is missing
+abbrev longestPath : List ℕ
+longestPath = replicate 1024 97
+
+abbrev longMessage : List ℕ → Request → (size : ℕ) → List (Fact Read)
+longMessage s q n = row s (request q n) ∷ row (take (n - 1) s) more ∷ []
+
+abbrev longMessages : List (Fact Read)
+longMessages =
+    -- STAT-path-1024 (there with a path of its own), and the others, each with its largest arg; a SEND with a shorter mode
+    longMessage (ascii "STAT" ++ 0 ∷ 4 ∷ 0 ∷ 0 ∷ longestPath) (ask stat longestPath) 1032
+    ++ longMessage (ascii "STA2" ++ 0 ∷ 4 ∷ 0 ∷ 0 ∷ longestPath) (ask sta2 longestPath) 1032
+    ++ longMessage (ascii "LIST" ++ 0 ∷ 4 ∷ 0 ∷ 0 ∷ longestPath) (ask list longestPath) 1032
+    ++ longMessage (ascii "LIS2" ++ 0 ∷ 4 ∷ 0 ∷ 0 ∷ longestPath) (ask lis2 longestPath) 1032
+    ++ longMessage (ascii "RECV" ++ 0 ∷ 4 ∷ 0 ∷ 0 ∷ longestPath) (ask recv longestPath) 1032
+    ++ longMessage (ascii "RCV2" ++ 0 ∷ 4 ∷ 0 ∷ 0 ∷ longestPath ++ ascii "RCV2" ++ 4 ∷ 0 ∷ 0 ∷ 0 ∷ []) (rcv2 longestPath 4) 1040
+    ++ longMessage (ascii "SEND" ++ 0x0b ∷ 4 ∷ 0 ∷ 0 ∷ longestPath ++ ascii ",4294967295") (send longestPath 4294967295) 1043
+    ++ longMessage (ascii "SND2" ++ 0 ∷ 4 ∷ 0 ∷ 0 ∷ longestPath ++ ascii "SND2" ++ 0xa4 ∷ 0x81 ∷ 0 ∷ 0 ∷ 4 ∷ 0 ∷ 0 ∷ 0 ∷ []) (snd2 longestPath 33188 4) 1044
+    ++ longMessage (ascii "SEND" ++ 6 ∷ 4 ∷ 0 ∷ 0 ∷ longestPath ++ ascii ",33188") (send longestPath 33188) 1038
+
+-- the limits, on headers alone: the arg by its bytes, and whether it is 18
 abbrev headers : (arg : List ℕ) → Read → (ids : List (List ℕ)) → List (Fact Read)
 headers arg r ids = map (λ i. row (i ++ arg) r) ids
 
@@ -61,13 +81,20 @@ paths = ascii "STAT" ∷ ascii "STA2" ∷ ascii "LIST" ∷ ascii "LIS2" ∷ asci
 
 abbrev heads : List (Fact Read)
 heads =
-    -- 65,536, 65,537, 65,547, 65,548; STAT-path-4GiB
-    headers (0 ∷ 0 ∷ 1 ∷ 0 ∷ []) more (ascii "DATA" ∷ ascii "SEND" ∷ paths)
-    ++ headers (1 ∷ 0 ∷ 1 ∷ 0 ∷ []) refused (ascii "DATA" ∷ paths)
-    ++ headers (0x0b ∷ 0 ∷ 1 ∷ 0 ∷ []) more (ascii "SEND" ∷ [])
-    ++ headers (0x0c ∷ 0 ∷ 1 ∷ 0 ∷ []) refused (ascii "SEND" ∷ [])
-    ++ headers (0xff ∷ 0xff ∷ 0xff ∷ 0xff ∷ []) refused (ascii "DATA" ∷ ascii "SEND" ∷ ascii "QUIT" ∷ paths)
+    -- 1,024, 1,025 (STAT-path-1025-header-only), 1,035, 1,036
+    headers (0 ∷ 4 ∷ 0 ∷ 0 ∷ []) more (ascii "DATA" ∷ ascii "SEND" ∷ paths)
+    ++ headers (1 ∷ 4 ∷ 0 ∷ 0 ∷ []) more (ascii "DATA" ∷ ascii "SEND" ∷ [])
+    ++ headers (1 ∷ 4 ∷ 0 ∷ 0 ∷ []) refused paths
+    ++ headers (0x0b ∷ 4 ∷ 0 ∷ 0 ∷ []) more (ascii "DATA" ∷ ascii "SEND" ∷ [])
+    ++ headers (0x0b ∷ 4 ∷ 0 ∷ 0 ∷ []) refused paths
+    ++ headers (0x0c ∷ 4 ∷ 0 ∷ 0 ∷ []) more (ascii "DATA" ∷ [])
+    ++ headers (0x0c ∷ 4 ∷ 0 ∷ 0 ∷ []) refused (ascii "SEND" ∷ paths)
+    -- 65,536, 65,537, 2^24, 2^32 - 1 (STAT-path-4GiB)
+    ++ headers (0 ∷ 0 ∷ 1 ∷ 0 ∷ []) more (ascii "DATA" ∷ [])
+    ++ headers (0 ∷ 0 ∷ 1 ∷ 0 ∷ []) refused (ascii "SEND" ∷ paths)
+    ++ headers (1 ∷ 0 ∷ 1 ∷ 0 ∷ []) refused (ascii "DATA" ∷ ascii "SEND" ∷ paths)
     ++ headers (0 ∷ 0 ∷ 0 ∷ 1 ∷ []) refused (ascii "DATA" ∷ ascii "SEND" ∷ ascii "QUIT" ∷ paths)
+    ++ headers (0xff ∷ 0xff ∷ 0xff ∷ 0xff ∷ []) refused (ascii "DATA" ∷ ascii "SEND" ∷ ascii "QUIT" ∷ paths)
     -- QUIT-with-path
     ++ headers (3 ∷ 0 ∷ 0 ∷ 0 ∷ []) refused (ascii "QUIT" ∷ [])
     -- none of the host's eleven: the panel's four; LST2-symlink, unknown-id, SEND-bad-data-id; another case
@@ -100,8 +127,18 @@ turned =
     ∷ (ascii "SEND" ++ 13 ∷ 0 ∷ 0 ∷ 0 ∷ [] ++ ascii "/w,4294967296")
     ∷ [])
 
+-- a SEND within its 1,035 whose path is over 1,024: more until it is whole, then 18, by its body; SEND-path-1025, with a path of its own (no comma)
+abbrev overlong : List (Fact Read)
+overlong =
+    row (ascii "SEND" ++ 7 ∷ 4 ∷ 0 ∷ 0 ∷ 97 ∷ longestPath ++ ascii ",3318") more
+    ∷ row (ascii "SEND" ++ 7 ∷ 4 ∷ 0 ∷ 0 ∷ 97 ∷ longestPath ++ ascii ",33188") refused
+    ∷ row (ascii "SEND" ++ 3 ∷ 4 ∷ 0 ∷ 0 ∷ 97 ∷ longestPath ++ ascii ",0") refused
+    ∷ row (ascii "SEND" ++ 0x0b ∷ 4 ∷ 0 ∷ 0 ∷ replicate 1033 97 ++ ascii ",0") refused
+    ∷ row (ascii "SEND" ++ 1 ∷ 4 ∷ 0 ∷ 0 ∷ 97 ∷ longestPath) refused
+    ∷ []
+
 abbrev pub receiving : List (Fact Read)
-receiving = messages ++ heads ++ turned
+receiving = messages ++ longMessages ++ heads ++ turned ++ overlong
 
 -- ---- decimal numbers: "A u32 as digits, no leading zero; 0 is "0""
 

@@ -40,8 +40,8 @@ kindOf FAIL = foreign
 kindOf DENT = foreign
 kindOf DNT2 = foreign
 
--- "18 if the id is none of the host's eleven, if arg exceeds 65,536 (65,547 for SEND: a comma and ten digits more), or QUIT's
--- arg isn't 0; DONE's arg is free"
+-- "18 if the id is none of the host's eleven .., if arg exceeds" its limit, "or QUIT's arg isn't 0; DONE's arg is free"; "SEND's largest arg
+-- becomes 1,035" (the longest path, a comma and ten digits), "that of the other path requests 1,024; DATA keeps 65,536" (document 02, [2])
 unfoldable pub argOk : Dialect → Kind → ℕ → Bool
 argOk d (pathOnly i) n = leb n (d .longest)
 argOk d pathFlags n = leb n (d .longest)

@@ -24,7 +24,7 @@ use Rattle.session.specs.declared.Session.{Session}
 use Rattle.session.specs.declared.Version.the-variants.{V1, V2}
 use Rattle.session.specs.declared.Want.the-variants as W
 use Rattle.session.specs.Core.{featuresFrom}
-use Rattle.record.specs.Fields.{bit, isOne, bits, bitsOf, low, unsigned, padded, registers, ownNumbers, stepNumbers, fields, sessionOf, keepsIn, startsIn, stepIn, known, phaseState, phaseNumbers, requestState, requestNumbers, pendingOf}
+use Rattle.record.specs.Fields.{bit, isOne, bits, bitsOf, low, unsigned, padded, registers, ownNumbers, stepNumbers, fields, sessionOf, keepsIn, stepIn, known, phaseState, phaseNumbers, requestState, requestNumbers, pendingOf}
 use Rattle.record.specs.Narrow.{U32, U64, I64, NarrowPhase, NarrowRequest, NarrowPending, Narrow}
 
 -- ---- bits

@@ -4,8 +4,8 @@ ghost use Rattle.protocol.specs.Bytes.{has};
 ghost use Rattle.protocol.specs.Ids.{published};
 ghost use Rattle.protocol.specs.Requests.{badPath};
 
-// The longest path.
-pub const MAX_PATH: usize = 65_536;
+// The longest path (document 02, [2]).
+pub const MAX_PATH: usize = 1_024;
 
 // Whether a path has a NUL. Every byte is looked at, without an early way out: so the loop goes by many bytes at a time.
 pub fn has_nul(path: &[u8]) -> bool

@@ -42,11 +42,11 @@ module _ (s : List ℕ) (off m : ℕ) (h : off + 4 ≤ m) where
 
 -- the tests of a path, in their order
 module _ (n behind : ℕ) (s : List ℕ) where
-  pub part-long : 65536 < n → partOf n behind s ≡ T.Refused
+  pub part-long : published .longest < n → partOf n behind s ≡ T.Refused
   unfolding partOf
   part-long h = rw (lt-leb _ _ h)
 
-  module _ (short : n ≤ 65536) where
+  module _ (short : n ≤ published .longest) where
     pub part-more : length s < headerSize + (n + behind) → partOf n behind s ≡ T.More
     unfolding partOf
     part-more h = rw (le-leb _ _ short, lt-ltb _ _ h)
@@ -64,9 +64,9 @@ module _ (n behind : ℕ) (s : List ℕ) where
       part-good e = rw (le-leb _ _ short, le-ltb _ _ there, rw size at e)
 
   pub part-whole : partOf n behind s ≡ T.Whole → headerSize + (n + behind) ≤ length s
-  part-whole e = go (decLe n 65536) (decLe (headerSize + (n + behind)) (length s))
+  part-whole e = go (decLe n (published .longest)) (decLe (headerSize + (n + behind)) (length s))
     where
-      go : Dec (n ≤ 65536) → Dec (headerSize + (n + behind) ≤ length s) → headerSize + (n + behind) ≤ length s
+      go : Dec (n ≤ published .longest) → Dec (headerSize + (n + behind) ≤ length s) → headerSize + (n + behind) ≤ length s
       go short (yes h) = h
       go (no f) (no g) = let z : _≡_ {A = ℕ} 0 1 = cc (part-long (omega arith)) in absurd (omega arith)
       go (yes short) (no g) = let z : _≡_ {A = ℕ} 0 1 = cc (part-more short (omega arith)) in absurd (omega arith)

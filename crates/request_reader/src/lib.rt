@@ -27,10 +27,11 @@ use request::Request;
 use request_path::MAX_PATH;
 use request_path::bad_path;
 
+// The most bytes in a DATA message.
 const MAX_DATA: usize = 65_536;
 
-// A path, a comma and ten digits.
-const MAX_SEND: usize = 65_547;
+// The longest path, a comma and ten digits.
+const MAX_SEND: usize = MAX_PATH + 11;
 
 pub enum Read {
     // The message is not all there yet.

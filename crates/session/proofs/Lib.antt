@@ -20,3 +20,4 @@ pub mod Demand3
 pub mod Places
 pub mod Examples
 pub mod Scripted
+pub mod Resuming

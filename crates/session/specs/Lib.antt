@@ -13,3 +13,4 @@ pub mod EveryHost
 pub mod Places
 pub mod Examples
 pub mod Scripted
+pub mod Resuming

@@ -156,7 +156,7 @@ impl Pair<'_, '_> {
             return Ok(());
         }
         intended::aside(call, &self.list.banner, self.list.rx.len())?;
-        tally.document(if number == 7 { "a path over 65,536: 7" } else { "a flag bit outside 80000007: 9" });
+        tally.document(if number == 7 { "a path over 1,024: 7" } else { "a flag bit outside 80000007: 9" });
         Ok(())
     }
 }

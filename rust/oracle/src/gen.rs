@@ -86,7 +86,9 @@ fn capacity(rng: &mut Rng, kind: Kind) -> usize {
         56..=69 => rng.within(70, 120),
         70..=79 => rng.within(41, 400),
         _ if kind == Kind::Short => rng.within(8, 100),
-        80..=91 => 4_096,
+        // where a message with a long path just fits, or just doesn't
+        80..=87 => rng.within(1_000, 1_060),
+        88..=93 => 4_096,
         _ => 65_544,
     }
 }
@@ -135,19 +137,11 @@ fn call(rng: &mut Rng, capacity: usize, kind: Kind) -> Call {
 }
 
 fn path(rng: &mut Rng, capacity: usize, kind: Kind) -> String {
-    if kind == Kind::Any && rng.once_in(1_000) {
-        let most = PATH_MOST + rng.below(3);
-        let mut path = "p".repeat(most);
-        if rng.chance(30) {
-            path.replace_range(most - 1.., "\0");
-        }
-        return path;
-    }
-    let free = capacity.min(5_000);
+    let free = capacity.min(PATH_MOST);
     let len = match rng.below(10) {
         0 => 0,
         1 => rng.within(free.saturating_sub(26), free + 2),
-        2 if kind == Kind::Any && rng.once_in(5) => rng.within(1_015, 1_030),
+        2 if kind == Kind::Any && rng.once_in(5) => rng.within(1_000, PATH_MOST),
         _ => rng.below(24),
     };
     let letters = ["/", "a", "Z", "0", ",", ".", "\u{e9}", "\u{20ac}", "\u{1f453}", "\n", "\u{7f}"];
@@ -158,6 +152,10 @@ fn path(rng: &mut Rng, capacity: usize, kind: Kind) -> String {
     if rng.chance(4) {
         let at = (0..=path.len()).filter(|i| path.is_char_boundary(*i)).nth(rng.below(path.len() / 4 + 1)).unwrap_or(0);
         path.insert(at, '\0');
+    }
+    // what is over the limit is in `differences`
+    while path.len() > PATH_MOST {
+        path.pop();
     }
     path
 }

@@ -7,7 +7,8 @@ use crate::scripted::{shared, Op};
 use crate::theirs;
 use crate::wire::Fault;
 
-pub const PATH_MOST: usize = 65_536;
+/// The most bytes of a path (document 02, [2]).
+pub const PATH_MOST: usize = 1_024;
 pub const KNOWN_FLAGS: u32 = 0x8000_0007;
 const DRY_RUN: u32 = 0x8000_0000;
 

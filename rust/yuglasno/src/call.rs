@@ -1,7 +1,8 @@
 //! The calls of a session with what each is lent, and what the host reports of a step.
 use crate::numbers::{FileMode, SyncFlags};
 
-/// A call, with the path or data that it lends to the session until it is answered.
+/// A call, with the path or data that it lends to the session until it is answered. A path has at most
+/// [`PATH_MOST`](crate::PATH_MOST) bytes, none of them NUL; data has any length.
 #[derive(Clone, Copy, PartialEq, Eq, Debug)]
 pub enum Call<'l> {
     /// A file's mode, size and time.

@@ -34,7 +34,7 @@ pub enum Error {
     NotAwaited,
     /// 6: a call after quit.
     Ended,
-    /// 7: a path over 65,536 bytes.
+    /// 7: a path over 1,024 bytes ([`PATH_MOST`](crate::PATH_MOST)).
     LongPath,
     /// 8: a NUL in the path.
     NulInPath,
@@ -132,7 +132,7 @@ impl fmt::Display for Error {
             Self::Pending => f.write_str("another call is pending"),
             Self::NotAwaited => f.write_str("the report is not awaited"),
             Self::Ended => f.write_str("the session has ended"),
-            Self::LongPath => f.write_str("the path is over 65,536 bytes"),
+            Self::LongPath => f.write_str("the path is over 1,024 bytes"),
             Self::NulInPath => f.write_str("the path has a NUL"),
             Self::Flags => f.write_str("the transfer takes no such flags"),
             Self::Missing(feature) => write!(f, "the panel lacks {feature} (feature {})", feature.number()),

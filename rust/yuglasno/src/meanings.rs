@@ -14,7 +14,7 @@ pub const MEANINGS: [(u32, &str); 19] = [
     (4, "a call while another one is pending"),
     (5, "a report that is not awaited"),
     (6, "a call or a report after quit"),
-    (7, "a path over 65,536 bytes"),
+    (7, "a path over 1,024 bytes"),
     (8, "a NUL in the path"),
     (9, "flags that no transfer of this kind takes"),
     (10, "the panel lacks the feature that the call needs; the feature's number comes along"),

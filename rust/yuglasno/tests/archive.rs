@@ -2,8 +2,9 @@
 mod common;
 use common::archives::{archive, counts, places, put, summed, text, whole, V2};
 use common::fake::{numbers, Numbers};
-use common::program::{ended, names, told, transfer};
+use common::program::{ended, names, told, transfer, PANEL};
 use common::shelf::{Pull, Shelf, FOLDER};
+use common::{listing_end, with};
 use std::ffi::OsStr;
 use std::fs;
 use std::os::fd::OwnedFd;
@@ -14,6 +15,7 @@ use std::path::{Path, PathBuf};
 use std::process::{Command, Stdio};
 use std::thread;
 use std::time::Duration;
+use yuglasno::PATH_MOST;
 
 const LISTS: [&str; 2] = ["DETAILS", "SHA256SUMS"];
 
@@ -80,9 +82,9 @@ fn names_of_any_bytes() {
 
 #[test]
 fn names_that_are_refused() {
-    let long = [b'n'; 256];
-    let bad: [&[u8]; 10] =
-        [b"", b".", b"..", b"a/b", b"../b", b"/b", b"a\0b", b"SHA256SUMS", b".transfer-unfinished", &long];
+    let (long, longer) = ([b'n'; 256], [b'n'; 5000]);
+    let bad: [&[u8]; 11] =
+        [b"", b".", b"..", b"a/b", b"../b", b"/b", b"a\0b", b"SHA256SUMS", b".transfer-unfinished", &long, &longer];
     let mut shelf = Shelf::default().job("/f", b"good", b"good");
     for name in [b".", &b".."[..]] {
         shelf = shelf.put("/f", name, FOLDER, &[Some(FOLDER)], Pull::Fail("a folder"));
@@ -157,23 +159,43 @@ fn sub_folders_that_cant_be_had() {
     endless.endless = true;
     let (dir, (status, said, error)) = shelved("endless", endless, V2);
     assert_eq!((status, said), (79, counts(&dir, 0, 0, 1)));
-    assert!(error.contains(": a path over 4096 bytes\n"));
+    assert!(error.contains("/folder: 7: the path is over 1,024 bytes ("));
 }
 
-/// The panel's FAIL for a path over 1,024 bytes ends the program that it is; it is started again.
+/// A panel ends the session over a path of more than 1,024 bytes: none is asked for, and one of 1,024 is.
 #[test]
-fn paths_that_the_panel_refuses() {
+fn paths_over_the_limit() {
     let (served, dir) = places("long paths");
     let deep = vec!["d".repeat(250); 4].join("/");
-    let long = "n".repeat(200);
+    let (last, over) = ("n".repeat(PATH_MOST - deep.len() - 2), "n".repeat(PATH_MOST - deep.len() - 1));
     fs::create_dir_all(served.join(&deep).join("z".repeat(100))).unwrap();
-    for name in ["a.job", &format!("{deep}/{long}"), &format!("{deep}/short"), "z.job"] {
+    for name in ["a.job", &format!("{deep}/{last}"), &format!("{deep}/{over}"), &format!("{deep}/short"), "z.job"] {
         put(&served, name, 1_000_000_000, "good");
     }
     let (status, said, error) = archive(&served, &dir, &["--recursive"]);
-    assert_eq!((status, said), (79, counts(&dir, 3, 0, 2)), "{error}");
-    assert_eq!(error.matches(": 14: the panel failed: path too long").count(), 2, "{error}");
-    whole(&dir, 3);
+    assert_eq!((status, said), (79, counts(&dir, 4, 0, 2)), "{error}");
+    assert_eq!(error.matches(": 7: the path is over 1,024 bytes (").count(), 2, "{error}");
+    assert!(dir.join(deep).join(last).is_file(), "{error}");
+    whole(&dir, 4);
+}
+
+/// A FAIL ends the program that the panel is; it is started again.
+#[test]
+fn a_panel_that_is_started_again() {
+    let (served, dir) = places("started again");
+    for name in ["a", "b"] {
+        put(&served, name, 1_000_000_000, "good");
+    }
+    let listed = |name: &[u8]| [b"DNT2", &numbers(4).v2()[4..], &1u32.to_le_bytes(), name].concat();
+    let first = [listed(b"a"), listed(b"b"), listing_end(76), numbers(4).v2(), with(b"FAIL", b"no")].concat();
+    fs::write(dir.with_file_name("first"), first).unwrap();
+    let program = r#"cd "$0" && if mkdir was; then cat first; cat >/dev/null; else exec "$1" --folder panel; fi"#;
+    let root = text(dir.parent().unwrap());
+    let run = ["--exec", "sh", "-c", program, root, PANEL, "--", "--features", V2, "archive", "/", text(&dir)];
+    let (status, said, error) = told(&run);
+    assert_eq!((status, said), (79, counts(&dir, 1, 0, 1)), "{error}");
+    assert!(error.contains("left out: a: 14: the panel failed: no"), "{error}");
+    whole(&dir, 1);
 }
 
 #[test]

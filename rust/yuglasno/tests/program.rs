@@ -7,6 +7,7 @@ use std::os::unix::net::UnixListener;
 use std::process::{Command, Stdio};
 use std::thread;
 use yuglasno::panel::Panel;
+use yuglasno::PATH_MOST;
 
 fn toric() -> Vec<u8> {
     Panel::with_jobs().file("/jobs/1998-toric.job").unwrap()
@@ -126,7 +127,7 @@ fn over_standard_input_and_output() {
 fn exit_statuses() {
     let absent = folder("absent").join("none").join("file");
     let absent = absent.to_str().unwrap();
-    let long = "p".repeat(65_537);
+    let long = "p".repeat(PATH_MOST + 1);
     let cases: &[(&[&str], i32)] = &[
         (&["--help"], 0),
         (&[], 64),

@@ -1,7 +1,7 @@
 //! The answers 1 to 11: nothing is written, and the session goes on as if they had not been asked.
 mod common;
 use common::*;
-use yuglasno::{Answer, Call, Error, Fault, Feature, FileMode, Link, Report, Session, Step, SyncFlags};
+use yuglasno::{raw, Answer, Call, Error, Fault, Feature, FileMode, Link, Report, Session, Step, SyncFlags, PATH_MOST};
 
 fn number(step: Step) -> u32 {
     match step {
@@ -65,7 +65,7 @@ fn ended() {
 fn paths_flags_and_features() {
     const V2: &[u8] = b"features=sendrecv_v2,sendrecv_v2_lz4";
     const ODD: SyncFlags = SyncFlags(8);
-    let long = vec![b'p'; 65_537];
+    let long = vec![b'p'; PATH_MOST + 1];
     let long_with_nul = [&long[..], &[0]].concat();
     let mode = FileMode(0);
     let cases: [(&[u8], Call, Error); 17] = [
@@ -97,12 +97,69 @@ fn paths_flags_and_features() {
     }
 }
 
+/// The calls that have a path, each beside the bytes that it writes.
+fn with_path(path: &[u8]) -> [(Call<'_>, Vec<u8>); 8] {
+    let mode = FileMode(u32::MAX);
+    let v2 = |id: &[u8; 4], numbers: &[u32]| [with(id, path), words(id, numbers)].concat();
+    [
+        (Call::Stat(path), with(b"STAT", path)),
+        (Call::StatV2(path), with(b"STA2", path)),
+        (Call::List(path), with(b"LIST", path)),
+        (Call::ListV2(path), with(b"LIS2", path)),
+        (Call::Recv(path), with(b"RECV", path)),
+        (Call::RecvV2(path, SyncFlags::ZSTD), v2(b"RCV2", &[4])),
+        (Call::Send(path, mode), with(b"SEND", &[path, b",4294967295"].concat())),
+        (Call::SendV2(path, mode, SyncFlags::LZ4), v2(b"SND2", &[u32::MAX, 2])),
+    ]
+}
+
+/// Lengths about the limit, in buffers that take such a message whole and in those that don't.
 #[test]
-fn a_path_of_65536_bytes_is_taken() {
-    let path = vec![b'p'; 65_536];
-    let mut link = Script::new(&stat(), 1, End::Closed);
-    Session::open(b"", [0; 40], [0; 40]).unwrap().stat(&mut link, &path).unwrap();
-    assert_eq!(link.written(), with(b"STAT", &path));
+fn paths_about_the_limit() {
+    const ALL: &[u8] = b"features=stat_v2,ls_v2,sendrecv_v2,sendrecv_v2_lz4,sendrecv_v2_zstd";
+    assert_eq!(PATH_MOST, 1024);
+    for length in [0, 1, 1023, 1024, 1025, 1026, 1035, 1036, 4096, 65_535, 65_536, 65_537, 70_000] {
+        let path = vec![b'p'; length];
+        for (call, message) in with_path(&path) {
+            for capacity in [40, 1023, 1024, 1031, 1032, 1033, 1040, 1042, 1043, 1044, 4096] {
+                let mut link = Script::new(b"", 1, End::Closed);
+                let mut session = Session::open(ALL, vec![0; capacity], vec![0; capacity]).unwrap();
+                let told = session.call(&mut link, &call).err().map(|error| error.number());
+                let expected = if length <= PATH_MOST { message.clone() } else { Vec::new() };
+                assert_eq!(link.written(), expected, "{length} bytes, capacity {capacity}");
+                assert_eq!(told == Some(7), length > PATH_MOST, "{length} bytes, capacity {capacity}: {told:?}");
+                let whole = length <= PATH_MOST && message.len() <= capacity;
+                assert_eq!(link.pieces.len() == 1, whole, "{length} bytes, capacity {capacity}");
+            }
+        }
+    }
+}
+
+/// The limit is met where a call starts, and nowhere else: one that is pending with a longer path goes on to its end.
+#[test]
+fn a_longer_path_that_is_pending() {
+    // the record's number of the length that is lent, and what a reply asks for
+    const LENT: usize = 4;
+    const READ: u32 = 1;
+    const WRITE_LENT: u32 = 3;
+    const WRITE_BYTES: u32 = 4;
+    let (mut rec, mut rx, mut msg, mut out) = ([0; raw::RECORD], [0; 16], [0; 16], [0; raw::REPLY]);
+    const LONG: usize = 70_000;
+    let path = vec![b'p'; LONG];
+    assert_eq!(raw::open(&mut rec, b"", rx.len(), msg.len()), 0);
+    let told = raw::start(&mut rec, &mut rx, &mut msg, &path[..PATH_MOST], 1, 0, 0, &mut out);
+    assert_eq!(told, WRITE_BYTES, "the header of a message in pieces");
+    // as an older library, with a higher limit, left it
+    rec[8 * LENT..8 * LENT + 8].copy_from_slice(&LONG.to_le_bytes());
+    assert_eq!(raw::wrote(&mut rec, &mut rx, &mut msg, &path, &mut out), WRITE_LENT);
+    assert_eq!(out[..16], [0, LONG].map(usize::to_le_bytes).concat());
+    assert_eq!(raw::wrote(&mut rec, &mut rx, &mut msg, &path, &mut out), READ);
+    rx[..15].copy_from_slice(&stat()[..15]);
+    assert_eq!(raw::read(&mut rec, &mut rx, &mut msg, &path, 15, &mut out), READ);
+    rx[15] = stat()[15];
+    assert_eq!(raw::read(&mut rec, &mut rx, &mut msg, &path, 1, &mut out), 0, "the stat is told");
+    let next = raw::start(&mut rec, &mut rx, &mut msg, &path, 1, 0, 0, &mut out);
+    assert_eq!(next, 7 << 8, "the next call meets the limit");
 }
 
 /// A link that says it read more than it was asked for.

@@ -1,10 +1,11 @@
 //! Whole transfers through the test panel, in memory and over sockets, at every cut.
 mod common;
-use common::{cuts, End, Script};
+use common::{cuts, with, words, End, Script};
+use std::io::{Read, Write};
 use std::os::unix::net::UnixStream;
 use std::thread;
 use yuglasno::panel::Panel;
-use yuglasno::{Details, FileMode, Session, CAPACITY};
+use yuglasno::{Details, FileMode, Session, CAPACITY, PATH_MOST};
 
 const MODE: FileMode = FileMode(0o100_644);
 const BANNERS: [&[u8]; 2] = [b"", Panel::BANNER];
@@ -117,14 +118,52 @@ fn the_panels_failures() {
 
             let mut panel = Panel::with_jobs().cut(cut);
             let mut two = session(banner, 100);
-            let failure = two.push(&mut panel, [b'p'; 1025], MODE, 5, &mut &b"x"[..]).unwrap_err();
-            assert_eq!(failure.to_string(), "14: the panel failed: path too long");
-
-            let mut panel = Panel::with_jobs().cut(cut);
-            let mut three = session(banner, 100);
-            let failure = three.pull(&mut panel, TORIC, &mut Vec::new()).unwrap_err();
+            let failure = two.pull(&mut panel, TORIC, &mut Vec::new()).unwrap_err();
             assert_eq!(failure.number(), Some(17), "DATA of 65,536 bytes in a buffer of 100");
         }
+    }
+}
+
+/// What a panel takes of a path: 1,024 bytes, in a SEND with a comma and up to ten digits behind them.
+#[test]
+fn the_longest_path() {
+    let path = format!("/jobs/{}", "p".repeat(PATH_MOST - 6));
+    for banner in BANNERS {
+        let mut panel = Panel::with_jobs().cut(7);
+        let mut session = session(banner, 100);
+        for mode in [MODE, FileMode(u32::MAX)] {
+            session.push(&mut panel, &path, mode, 5, &mut &b"heights"[..]).unwrap();
+            let mut pulled = Vec::new();
+            session.pull(&mut panel, &path, &mut pulled).unwrap();
+            assert_eq!((pulled, session.details(&mut panel, &path).unwrap().mode()), (b"heights".to_vec(), mode));
+        }
+        let failure = session.push(&mut panel, format!("{path}p"), MODE, 5, &mut &b"x"[..]).unwrap_err();
+        assert_eq!(failure.to_string(), "7: the path is over 1,024 bytes");
+        assert!(session.details(&mut panel, &path).is_ok(), "the session goes on");
+    }
+}
+
+/// The panel by itself: headers about its limits, and a SEND whose path alone is too long.
+#[test]
+fn the_panels_limits() {
+    let text = |length: usize, mode: &str| with(b"SEND", &[&vec![b'p'; length][..], mode.as_bytes()].concat());
+    let header = |id: &[u8; 4], arg: u32| words(id, &[arg]);
+    let cut_off = text(1025, ",33188")[..1038].to_vec();
+    let taken = [header(b"STAT", 1024), header(b"SND2", 1024), header(b"SEND", 1035), header(b"DATA", 65_536), cut_off];
+    for request in taken {
+        let mut panel = Panel::with_jobs();
+        panel.write_all(&request).unwrap();
+        assert_eq!(panel.read(&mut [0; 100]).unwrap(), 0, "more is awaited behind {:?}", &request[..8]);
+    }
+    let headers = [(b"STAT", 1025), (b"RCV2", 1025), (b"SND2", 1025), (b"SEND", 1036), (b"DATA", 65_537)];
+    let headers = headers.into_iter().map(|(id, arg)| header(id, arg));
+    for request in headers.chain([text(1025, ",33188"), text(1033, ",0")]) {
+        let mut panel = Panel::with_jobs();
+        panel.write_all(&request).unwrap();
+        let mut told = Vec::new();
+        panel.read_to_end(&mut told).unwrap();
+        let why: &[u8] = if request.starts_with(b"DATA") { b"oversize data message" } else { b"path too long" };
+        assert_eq!(told, with(b"FAIL", why), "{:?}", &request[..8]);
     }
 }
 

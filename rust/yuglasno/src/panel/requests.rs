@@ -1,6 +1,6 @@
 //! The requests that a panel hears.
 use crate::numbers::{FileMode, SyncFlags};
-use crate::DATA_MOST;
+use crate::{DATA_MOST, PATH_MOST};
 
 #[derive(Clone, Copy)]
 pub(super) enum Version {
@@ -18,8 +18,9 @@ pub(super) enum Request {
     Quit,
 }
 
-/// AOSP's service takes no longer path.
-const LONGEST_PATH: usize = 1024;
+/// The largest arg of a SEND: the longest path, a comma and ten digits. AOSP's service takes [`PATH_MOST`] bytes in all.
+const SEND_MOST: usize = PATH_MOST + 11;
+const TOO_LONG: &str = "path too long";
 
 fn number(bytes: &[u8]) -> u32 {
     u32::from_le_bytes(bytes.try_into().expect("four bytes"))
@@ -34,14 +35,18 @@ pub(super) fn first(bytes: &[u8]) -> Result<Option<(Request, usize)>, String> {
     let (body, behind) = match id {
         b"DONE" => return Ok(Some((Request::Done(arg), 8))),
         b"QUIT" => return Ok(Some((Request::Quit, 8))),
-        b"DATA" if arg as usize > DATA_MOST => return Err("oversize data message".into()),
         b"DATA" | b"STAT" | b"STA2" | b"LIST" | b"LIS2" | b"RECV" | b"SEND" => (arg as usize, 0),
         b"RCV2" => (arg as usize, 8),
         b"SND2" => (arg as usize, 12),
         _ => return Err(format!("unknown command {}", id.escape_ascii())),
     };
-    if id != b"DATA" && body > LONGEST_PATH {
-        return Err("path too long".into());
+    let (most, why) = match id {
+        b"DATA" => (DATA_MOST, "oversize data message"),
+        b"SEND" => (SEND_MOST, TOO_LONG),
+        _ => (PATH_MOST, TOO_LONG),
+    };
+    if body > most {
+        return Err(why.into());
     }
     let length = 8 + body + behind;
     if bytes.len() < length {
@@ -68,6 +73,9 @@ fn request(id: &[u8], body: &[u8], behind: &[u8]) -> Result<Request, String> {
         },
         b"SEND" => {
             let comma = body.iter().rposition(|b| *b == b',').ok_or("missing , in ID_SEND_V1")?;
+            if comma > PATH_MOST {
+                return Err(TOO_LONG.into());
+            }
             let mode = std::str::from_utf8(&body[comma + 1..]).ok().and_then(|digits| digits.parse().ok());
             let mode = FileMode(mode.ok_or("bad mode")?);
             Request::Send { path: body[..comma].to_vec(), mode, keep: true }

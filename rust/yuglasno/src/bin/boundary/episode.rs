@@ -73,7 +73,7 @@ impl<'c> Episode<'c> {
             self.call = 11;
         }
         let length = match self.random.below(12) {
-            0 => self.random.of(&[65_535, 65_536, 65_537, 70_000, 140_000]),
+            0 => self.random.of(&[1_023, 1_024, 1_025, 65_535, 65_536, 65_537, 70_000, 140_000]),
             1 => 0,
             _ => self.random.below(30),
         };

@@ -21,7 +21,7 @@ const NAMES: [&str; 9] = [
 pub fn opened(random: &mut Random, counts: &mut Counts) -> Result<Option<Slices>, String> {
     let rx = match random.below(12) {
         0 => random.below(8),
-        1 => random.of(&[4096, 65_544, 70_000]),
+        1 => random.of(&[1_024, 1_032, 1_043, 4096, 65_544, 70_000]),
         _ => 8 + random.below(100),
     };
     let msg = if random.one_in(12) { random.below(rx + 2) } else { rx + random.below(9) };

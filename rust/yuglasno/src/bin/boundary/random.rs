@@ -31,7 +31,7 @@ impl Random {
     /// A number of any size, often one where something changes; `near` is one such place.
     pub fn number(&mut self, near: u64) -> u64 {
         match self.below(4) {
-            0 => self.of(&[0, 1, 2, 7, 8, 255, 256, 65_535, 65_536, 65_537, 1 << 31, u64::from(u32::MAX)]),
+            0 => self.of(&[0, 1, 2, 7, 8, 255, 256, 1_024, 65_535, 65_536, 65_537, 1 << 31, u64::from(u32::MAX)]),
             1 => self.of(&[1 << 32, i64::MAX as u64, 1 << 63, u64::MAX - 1, u64::MAX]),
             2 => near.wrapping_add(self.of(&[u64::MAX, 0, 1])),
             _ => self.next() >> self.below(64),

@@ -78,16 +78,10 @@ enum Kind {
     Refused(String),
 }
 
-/// No system takes a longer path, and no panel leads deeper.
-const LONGEST: usize = 4096;
-
 fn kind(folder: &[u8], entry: &[u8], details: &Details) -> Kind {
     let mode = details.mode();
     if (entry == b"." || entry == b"..") && (mode.is_folder() || details.error() != 0) {
         return Kind::Itself;
-    }
-    if folder.len() + entry.len() > LONGEST {
-        return Kind::Refused(format!("a path over {LONGEST} bytes"));
     }
     if details.error() != 0 {
         return Kind::Refused(format!("the panel can't look at it (errno {})", details.error()));
