@@ -97,7 +97,8 @@ enum {
   YUGLASNO_FAULT_ERROR = 1   /* another fault, with a code of the host's own */
 };
 
-/* The answers. 1 to 11 change nothing: record, buffers and a pending call are as before. docs/ANSWERS.md says what to do. */
+/* The answers. 1 to 11 change nothing: record, buffers and a pending call are as before. Where several apply, the first of 1, 2, then 3, 6, 4,
+ * 5, 8, 7, 9, 10 is answered; of a report 3, 6, 5, 11. docs/ANSWERS.md says what to do. */
 enum {
   YUGLASNO_ANSWER_OK = 0,
   YUGLASNO_ANSWER_SMALL_BUFFER = 1,         /* rx is under 8 bytes */
@@ -106,8 +107,8 @@ enum {
   YUGLASNO_ANSWER_PENDING = 4,              /* a call while one is pending */
   YUGLASNO_ANSWER_NOT_AWAITED = 5,          /* a report that is not awaited, or no such call */
   YUGLASNO_ANSWER_ENDED = 6,                /* a call or report after quit */
-  YUGLASNO_ANSWER_LONG_PATH = 7,            /* a path over YUGLASNO_PATH_MOST bytes */
-  YUGLASNO_ANSWER_NUL_IN_PATH = 8,          /* a NUL in the path */
+  YUGLASNO_ANSWER_LONG_PATH = 7,            /* a path over YUGLASNO_PATH_MOST bytes, none of them NUL */
+  YUGLASNO_ANSWER_NUL_IN_PATH = 8,          /* a NUL in the path, however long it is */
   YUGLASNO_ANSWER_FLAGS = 9,                /* flags that no transfer of this kind takes */
   YUGLASNO_ANSWER_MISSING = 10,             /* the banner lacks a feature: word 3 */
   YUGLASNO_ANSWER_COUNT = 11,               /* a read of no bytes, or of more than the window */

@@ -1,5 +1,5 @@
 """The numbers of the boundary, in include/yuglasno.h, in the Rust crate and in the definitions: the same in all three, name by name; those of
-the answers in docs/ANSWERS.md too. Then each number of each of them is altered by itself, in a copy, and must be reported.
+the answers, and their order, in docs/ANSWERS.md too. Then each number of each of them is altered by itself, in a copy, and must be reported.
 
 The last line is 'N passed, M failed'."""
 import itertools
@@ -11,7 +11,8 @@ from tables import in_definitions, in_header, in_page, in_rust
 
 ROOT = pathlib.Path(__file__).resolve().parent.parent
 OTHERS = {'rust': in_rust, 'definitions': in_definitions, 'page of answers': in_page}
-IN_ALL = ('rust', 'definitions')
+# the page has these alone; the others have every table of the header
+ON_PAGE = {'answers', 'order', 'order of a report'}
 # what a table has no name for: the crate's errors are not 0, and it reads no requests; the definitions have no buffer of that length and
 # no name for no flags, and to them a fault of any kind but 0 is an error; where a host reads an answer, a refusal is any other number, and
 # the close any other what
@@ -38,6 +39,12 @@ EDITS = [
     ('definitions', 'flagNumber z (call (rcv2 p f)) = f', 'flagNumber z (call (rcv2 p f)) = z .second'),
     ('definitions', 'lentOf z (call (done t)) = z .lent', 'lentOf z (call (done t)) = t'),
     ('definitions', 'kind: u32,\n    code: u32,', 'code: u32,\n    kind: u32,'),
+    # the order of the answers
+    ('header', '5, 8, 7, 9, 10 is', '5, 7, 8, 9, 10 is'),
+    ('rust', '5, 8, 7, 9, 10 is', '5, 7, 8, 9, 10 is'),
+    ('page of answers', '5, 8, 7, 9, 10 is', '5, 7, 8, 9, 10 is'),
+    ('definitions', 'orElse (refuse (has 0 p) (refused 8)) (refuse (ltb (d .longest) (length p)) (refused 7))',
+     'orElse (refuse (ltb (d .longest) (length p)) (refused 7)) (refuse (has 0 p) (refused 8))'),
 ]
 
 
@@ -81,7 +88,7 @@ def compared(count, header, read):
         for table, name in sorted(entries(tables) | wrong):
             count.check((table, name) not in wrong, f'{table}: {name} is not the same in the header and in the {side}')
         there = {table.split(',')[0] for table in tables}
-        count.check(there == header.keys() or side not in IN_ALL and there, f'the {side}: a table is not there')
+        count.check(there == (ON_PAGE if OTHERS[side] is in_page else header.keys()), f'the {side}: a table is not there')
 
 
 def reports(count, header, read):

@@ -97,15 +97,28 @@ static void refused(uint32_t told, uint32_t answer, int line) {
 
 #define REFUSED(answer, told) (memcpy(before, memory, sizeof before), refused(told, YUGLASNO_ANSWER_##answer, __LINE__))
 
+/* A path that is too long and has a NUL, in every call that takes a path, with flags that are refused: the NUL comes first. */
+static void nul_in_long_path(uint8_t *path, size_t length) {
+  const size_t places[] = {0, YUGLASNO_PATH_MOST - 1, YUGLASNO_PATH_MOST, length - 1};
+  for (size_t i = 0; i < sizeof places / sizeof *places; i++) {
+    path[places[i]] = 0;
+    for (uint32_t number = YUGLASNO_CALL_STAT; number <= YUGLASNO_CALL_SEND_V2; number++)
+      REFUSED(NUL_IN_PATH, yuglasno_start(SESSION, path, length, number, 0, 3, REPLY));
+    path[places[i]] = 'p';
+  }
+}
+
 static void refusals(void) {
-  static uint8_t path[YUGLASNO_PATH_MOST + 1];
+  static uint8_t path[70000];
   memset(path, 'p', sizeof path);
   open_session("");
   REFUSED(OTHER_LENGTH, yuglasno_start(SESSION, path, 1, YUGLASNO_CALL_STAT, 0, 0, NULL, 0));
   REFUSED(OTHER_LENGTH, yuglasno_start(NULL, 0, rx, CAPACITY, msg, CAPACITY, path, 1, YUGLASNO_CALL_STAT, 0, 0, REPLY));
   REFUSED(OTHER_LENGTH, yuglasno_start(rec, YUGLASNO_RECORD, NULL, 0, NULL, 0, path, 1, YUGLASNO_CALL_STAT, 0, 0, REPLY));
-  REFUSED(LONG_PATH, yuglasno_start(SESSION, path, sizeof path, YUGLASNO_CALL_STAT, 0, 0, REPLY));
+  REFUSED(LONG_PATH, yuglasno_start(SESSION, path, YUGLASNO_PATH_MOST + 1, YUGLASNO_CALL_STAT, 0, 0, REPLY));
+  REFUSED(LONG_PATH, yuglasno_start(SESSION, path, sizeof path, YUGLASNO_CALL_RECV_V2, 0, 3, REPLY));
   REFUSED(NUL_IN_PATH, yuglasno_start(SESSION, (const uint8_t *)"a\0b", 3, YUGLASNO_CALL_STAT, 0, 0, REPLY));
+  nul_in_long_path(path, sizeof path);
   REFUSED(FLAGS, yuglasno_start(SESSION, path, 1, YUGLASNO_CALL_RECV_V2, 0, YUGLASNO_FLAG_DRY_RUN, REPLY));
   REFUSED(MISSING, yuglasno_start(SESSION, path, 1, YUGLASNO_CALL_LIST_V2, 0, 0, REPLY));
   CHECK(word(YUGLASNO_AT_KIND) == YUGLASNO_KIND_OTHER && word(YUGLASNO_AT_NUMBER) == YUGLASNO_FEATURE_LS_V2);

@@ -18,6 +18,19 @@ def found(pattern, text):
     return {snake(m['name']): int(m['number'], 0) for m in re.finditer(pattern, text)}
 
 
+def order(text):
+    """The order of the answers as it is written for readers: each number by its place, of a call and of a report."""
+    plain = re.sub(r'\s+(?:\*|///)?\s*', ' ', text)
+    said = re.search(r'the first of ([\d, ]+), then ([\d, ]+) is answered; of a report ([\d, ]+\d)', plain)
+    return placed(said[1].split(', ') + said[2].split(', '), said[3].split(', ')) if said else {}
+
+
+def placed(of_a_call, of_a_report):
+    """Each number by its place, in both orders."""
+    orders = {'order': of_a_call, 'order of a report': of_a_report}
+    return {name: {f'{int(n)}': i for i, n in enumerate(numbers, 1)} for name, numbers in orders.items()}
+
+
 def crossed(parameters):
     """Parameters as they cross, of pairs of name and type: a slice is an address and a length."""
     for name, kind in parameters:

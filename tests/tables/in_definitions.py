@@ -1,8 +1,7 @@
 """The tables of the definitions (crates/*/specs), and of the exported functions' own heads."""
 import re
 
-from . import crossed, found, section, snake
-
+from . import crossed, found, placed, section, snake
 
 
 def specs(crate, names):
@@ -14,9 +13,10 @@ ANSWERS, REFUSAL, IDS, MESSAGES, FEATURES, FLAGS = specs('protocol', 'Answers Re
 OPENING, REPORTS, HOST = specs('session', 'Calls Reports Host')
 RECORD, FIELDS = specs('record', 'Record Fields')
 READER = 'crates/request_reader/specs/Meaning.antt'
+MISUSE, = specs('boundary_misuse', 'Misuse')
 EXPORTS = 'crates/exports/src/lib.rt'
 SOURCES = [TOLD, CROSSING, BOUNDARY, HEARD, ANSWERS, REFUSAL, IDS, MESSAGES, FEATURES, FLAGS, OPENING, REPORTS, HOST, RECORD, FIELDS, READER]
-SOURCES += [EXPORTS]
+SOURCES += [EXPORTS, MISUSE]
 
 # the definitions' words for the calls, and for some answers and kinds
 CALLED = {
@@ -135,11 +135,21 @@ def read(heard):
     }
 
 
+def order(misuse, refusal, answers):
+    """The numbers in the order of their tests: of the opening, of a call (then of its number, its path, its flags, its features), of a report."""
+    def refused(text, start):
+        return re.findall(r'\(refused (\d+)\)', section(text, start, '\n\n'))
+    opening = refused(misuse, 'openRefused rec rx msg =')[:2]
+    call, report = (re.findall(r'\(refused (\d+)\)', part) for part in section(misuse, 'refusedAt s e (start', '\n\n').split('refusedAt s e (report'))
+    of_request = refused(misuse, 'numbered s none =') + refused(refusal, 'pathRefusal d p =') + refused(refusal, 'flagRefusal pull f =')
+    return placed(opening + call + of_request + re.findall(r'\nnumber \(missing \w+\) = (\d+)', answers), report)
+
+
 def tables(texts):
     listed = features(texts[FEATURES])
     told = texts[TOLD].replace('= 256 * answerNumber a', '= 0')
     limits = {'RECORD': (RECORD, 'size'), 'REPLY': (TOLD, 'outSize'), 'DATA_MOST': (MESSAGES, 'dataMost'), 'PATH_MOST': (IDS, 'longest')}
-    return read(texts[HEARD]) | {
+    return read(texts[HEARD]) | order(texts[MISUSE], texts[REFUSAL], texts[ANSWERS]) | {
         'lengths': {name: int(m[1]) for name, (path, word) in limits.items() if (m := re.search(rf'{word} = (\d+)', texts[path]))},
         'calls': calls(texts[BOUNDARY]),
         'calls, at the start': numbered(texts[CROSSING]),

@@ -1,7 +1,7 @@
 """The tables of include/yuglasno.h."""
 import re
 
-from . import found
+from . import found, order
 
 SOURCES = ['include/yuglasno.h']
 GROUPS = {'calls': 'CALL', 'what': 'WHAT', 'faults': 'FAULT', 'answers': 'ANSWER', 'features': 'FEATURE', 'kinds': 'KIND', 'words': 'AT'}
@@ -29,4 +29,4 @@ def tables(texts):
     made['record'] = found(r'(?P<name>until|tail) = yuglasno_word\(rec, (?P<number>\d+)\)', text)
     made['uses'] = dict(uses(text))
     made['functions'] = dict(functions(text))
-    return made
+    return made | order(text)

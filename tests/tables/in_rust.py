@@ -1,7 +1,7 @@
 """The tables of the crate `yuglasno`."""
 import re
 
-from . import found, section, snake
+from . import found, order, section, snake
 
 CRATE = 'rust/yuglasno/src/'
 RAW, CALL, REPLY, ANSWER, ERROR = (CRATE + name for name in ('raw.rs', 'call.rs', 'reply.rs', 'answer.rs', 'error.rs'))
@@ -58,7 +58,7 @@ def tables(texts):
     lengths = found(r'pub const (?P<name>RECORD|REPLY): usize = (?P<number>\d+);', texts[RAW])
     lengths |= found(r'pub const (?P<name>PATH_MOST|DATA_MOST): usize = (?P<number>[\d_]+);', texts[LIB])
     header = re.search(r'pub const CAPACITY: usize = (\d+) \+ DATA_MOST;', texts[LIB])
-    return {
+    return order(texts[ERROR]) | {
         'lengths': lengths | ({'CAPACITY': int(header[1]) + lengths['DATA_MOST']} if header else {}),
         'calls': found(r'Self::(?P<name>\w+)(?:\([^)]*\))? => \((?P<number>\d+),', texts[CALL]),
         'uses': dict(uses(texts[CALL])),

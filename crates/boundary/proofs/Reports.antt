@@ -83,7 +83,7 @@ report-lent s x m n = go (misfit s x m) (isIdle (s .pending)) (s .ended) (eqb n 
     go false false e true q z = eqb-true n (s .lent) q
     go false false e false q z = absurd (omega (arith, z))
 
--- 7 to 10
+-- 8, 7, 9 and 10
 pub data NarrowRefusal : Option P.Answer → Type 0 where
   lets : NarrowRefusal none
   by-number : {n : ℕ} → Plain n → NarrowRefusal (some (P.refused n))
@@ -104,7 +104,7 @@ feature-narrow fs needed (suc n) h = refuse-narrow (needed && not (getD fs n fal
 
 path-narrow : (d : Dialect) (p : List ℕ) → NarrowRefusal (pathRefusal d p)
 unfolding pathRefusal
-path-narrow d p = or-narrow (refuse-narrow (ltb (d .longest) (length p)) (by-number (omega arith))) (refuse-narrow (has 0 p) (by-number (omega arith)))
+path-narrow d p = or-narrow (refuse-narrow (has 0 p) (by-number (omega arith))) (refuse-narrow (ltb (d .longest) (length p)) (by-number (omega arith)))
 
 flag-narrow : (pull : Bool) (f : ℕ) → NarrowRefusal (flagRefusal pull f)
 unfolding flagRefusal

@@ -84,7 +84,7 @@ module _ (s : St) (r : Option Answer) (φ : Frame) (o : Out) where
       go false false true true q u k = refl
       go false false false true q u k = f q (eqb-true n (s .ses .lent) u)
 
--- 5 and 7 to 10 fit a reply
+-- 5, 8, 7, 9 and 10 fit a reply
 pub numbered-narrow : (v : Seen) (q : Option Call) → NarrowRefusal (numbered v q)
 numbered-narrow v none = by-number {n = 5} (omega arith)
 numbered-narrow v (some (call q)) = request-narrow _ q

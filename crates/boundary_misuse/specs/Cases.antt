@@ -1,5 +1,5 @@
--- Facts on misuse: what is answered where more than one reason is there, by document 01's "Order: 1, 2, then 3, 6, 4, 5, 7, 8, 9, 10. For a
--- report: 3, 6, 5, 11", and each reason by itself.
+-- Facts on misuse: what is answered where more than one reason is there, by "The written order becomes 1, 2, then 3, 6, 4, 5, 8, 7, 9, 10"
+-- (document 02, [6]) and "For a report: 3, 6, 5, 11" (document 01), and each reason by itself.
 -- Assumes nothing.
 use Prim.Native.Nat.{ℕ}
 use mathlib.Core.Bool.{Bool, true, false}
@@ -49,6 +49,19 @@ misfit last ended a =
     ∷ row last ended a path 16 20 111 (some (refused 3))
     ∷ []
 
+-- a path of 1,025 bytes; one whose NUL is the first byte behind the limit; both beside a NUL alone; the calls that have a path
+abbrev long : List ℕ
+long = replicate 1025 97
+
+abbrev longNul : List ℕ
+longNul = replicate 1024 97 ++ 0 ∷ []
+
+abbrev badPaths : List (List ℕ)
+badPaths = (0 ∷ []) ∷ longNul ∷ long ∷ []
+
+abbrev pathCalls : List ℕ
+pathCalls = 1 ∷ 2 ∷ 3 ∷ 4 ∷ 5 ∷ 6 ∷ 7 ∷ 8 ∷ []
+
 abbrev called : List (Fact (Option Answer))
 called =
     fits idle false (start 1 0 0) none
@@ -64,10 +77,14 @@ called =
     ∷ map (λ s. fits s false (start 0 0 0) (some (refused 4))) asks
     ++ map (λ s. fits s false (start 1 0 0) (some (refused 4))) asks
     ++ map (λ n. fits idle false (start n 3 3) (some (refused 5))) (0 ∷ 15 ∷ 255 ∷ 257 ∷ [])
-    -- 5 before 8, 4 before 8; 8 before 9, 9 before 10; the flags are the second number, of 6 and 8
-    ++ row idle false (start 15 3 3) (0 ∷ []) 16 20 112 (some (refused 5))
-    ∷ row (read 3 5) false (start 1 3 3) (0 ∷ []) 16 20 112 (some (refused 4))
-    ∷ row idle false (start 6 3 3) (0 ∷ []) 16 20 112 (some (refused 8))
+    -- 3, 6, 4 and 5 before 8 and 7; 8 before 7; both before 9, 9 before 10; the flags are the second number, of 6 and 8
+    ++ map (λ p. row idle true (start 6 3 3) p 15 20 112 (some (refused 3))) badPaths
+    ++ map (λ p. row idle true (start 6 3 3) p 16 20 112 (some (refused 6))) badPaths
+    ++ map (λ p. row (read 3 5) false (start 6 3 3) p 16 20 112 (some (refused 4))) badPaths
+    ++ map (λ p. row idle false (start 15 3 3) p 16 20 112 (some (refused 5))) badPaths
+    ++ map (λ n. row idle false (start n 3 3) longNul 16 20 112 (some (refused 8))) pathCalls
+    ++ map (λ n. row idle false (start n 3 3) long 16 20 112 (some (refused 7))) pathCalls
+    ++ row idle false (start 6 3 3) (0 ∷ []) 16 20 112 (some (refused 8))
     ∷ fits idle false (start 6 0 3) (some (refused 9))
     ∷ fits idle false (start 8 0 3) (some (refused 9))
     ∷ fits idle false (start 6 3 0) (some (missing 3))

@@ -1,5 +1,5 @@
--- What a caller is refused: document 01's "Answers, by who can cause them", as a table over what the host has seen. Nothing here looks
--- inside a session.
+-- What a caller is refused: document 01's "Answers, by who can cause them", in document 02's order ([6]), as a table over what the host has
+-- seen. Nothing here looks inside a session.
 -- Assumes nothing.
 use Prim.Native.Nat.{ℕ, _<_, _^_}
 use mathlib.Core.Bool.{Bool, true, false, _&&_, _||_, not}
@@ -142,7 +142,7 @@ callOf n a b p =
     ∷ some (nextEntry v1) ∷ some (nextEntry v2) ∷ some nextChunk
     ∷ []) n none
 
--- 5 for a number that is no call's; 7 to 10 as the plain reader has them
+-- 5 for a number that is no call's; 8, 7, 9 and 10 as the plain reader has them
 abbrev pub numbered : Seen → Option Call → Option Answer
 numbered s none = some (refused 5)
 numbered s (some q) = callRefusal (record { dialect = published; features = s .features; ended = s .ended }) q
@@ -159,7 +159,7 @@ outside sh (hasRead k) = eqb k 0 || ltb (window sh) k
 outside sh wrote = false
 outside sh (fault kind code) = false
 
--- "Order: .. 3, 6, 4, 5, 7, 8, 9, 10. For a report: 3, 6, 5, 11."
+-- "The written order becomes 1, 2, then 3, 6, 4, 5, 8, 7, 9, 10" (document 02, [6]). "For a report: 3, 6, 5, 11" (document 01).
 abbrev pub refusedAt : Seen → Event → Act → Option Answer
 refusedAt s e (start n a b) =
     orElse (refuse (misfits s e) (refused 3))

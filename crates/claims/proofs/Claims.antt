@@ -27,7 +27,7 @@ use Rattle.protocol.specs.Numbers as NumberFacts
 use Rattle.protocol.specs.Reader.{Config, plainAnswers, plainWrites}
 use Rattle.protocol.specs.Received as ReceiveFacts
 use Rattle.protocol.specs.Records.{idAt, argAt}
-use Rattle.protocol.specs.Refusals.{Row, rows, settingAt}
+use Rattle.protocol.specs.Refusals.{Row, rows, settingAt, PathsRefused}
 use Rattle.protocol.specs.Replies as ReplyFacts
 use Rattle.protocol.specs.Requests.{more, refused, request, readRequest}
 use Rattle.protocol.specs.Trials.{Trial, trials}
@@ -189,6 +189,10 @@ trials-hold = Trials.trials-hold
 
 pub refusals-hold : map (λ (r : Row). refusal (settingAt r) (r .made)) rows ≡ map (λ (r : Row). r .paper) rows
 refusals-hold = Refusals.refusals-hold
+
+-- 8, then 7, of every path in every request, at every limit
+pub paths-refused : PathsRefused
+paths-refused = Refusals.paths-refused
 
 -- the plain reader: replies of every kind; lost pushes, failed writes, quit; lists of calls
 pub replies-hold : Hold ReplyFacts.replies

@@ -9,7 +9,7 @@ use borrow.Author.Tests.{le-leb, eq-eqb, leb-true}
 use lib.ListN.{length}
 use Rattle.protocol.specs.Answers.{Answer}
 use Rattle.protocol.specs.Bytes.{put}
-use Rattle.protocol.specs.Refusal.{pathRefusal, featureRefusal, askFeature, requestRefusal}
+use Rattle.protocol.specs.Refusal.{isNone, pathRefusal, featureRefusal, askFeature, requestRefusal}
 use Rattle.protocol.specs.Ids.{published}
 use Rattle.protocol.specs.Messages.{PathOnly, stat, sta2, list, lis2, recv, pathId, ask, messageOf, bytesOfRequest}
 use Rattle.protocol.proofs.Bytes.{putLength-in}
@@ -39,7 +39,7 @@ use Rattle.session.specs.declared.Reply.the-variants as R
 use Rattle.session.specs.declared.Session.{Session}
 use Rattle.fast_record.specs.Standing.{numberIn, Stands, plainStep}
 use Rattle.fast_record.proofs.Laws.{number-in, fits-of, stands-in}
-use Rattle.fast_request.specs.Starting.{pathOf, offered, isNone, isPath, heldCountIn, askFits, askedIn, askDone, askNow}
+use Rattle.fast_request.specs.Starting.{pathOf, offered, isPath, heldCountIn, askFits, askedIn, askDone, askNow}
 
 -- ---- the five
 
@@ -139,7 +139,7 @@ module _ (rec rx msg lent : List ℕ) (h : Stands rec (length rx) (length msg)) 
   abbrev s : Session
   s = ses rec rx msg h
 
-  -- 7 to 10: none
+  -- 8, 7, 9, 10: none of them
   allowed : requestRefusal (settingOf s) (meant (askOf i) lent) ≡ none
   unfolding requestRefusal sessionOf
   allowed =

@@ -1,14 +1,12 @@
 -- When a call that carries a path alone (stat, stat_v2, list, list_v2, recv) is started at once, and what it leaves.
 -- Assumes nothing.
 use Prim.Native.Nat.{ℕ, _+_, _-_, _/_, _%_}
-use mathlib.Core.Bool.{Bool, true, false, _&&_}
+use mathlib.Core.Bool.{Bool, true, _&&_}
 use mathlib.Core.List.{List, [], _∷_}
-use mathlib.Core.Option.{Option, none, some}
 use lib.Dec.{eqb, leb}
 use lib.ListN.{length, getD}
-use Rattle.protocol.specs.Answers.{Answer}
 use Rattle.protocol.specs.Bytes.{pick, put}
-use Rattle.protocol.specs.Refusal.{pathRefusal}
+use Rattle.protocol.specs.Refusal.{isNone, pathRefusal}
 use Rattle.protocol.specs.Ids.{published}
 use Rattle.protocol.specs.Messages.{PathOnly, stat, sta2, list, lis2, recv, ask, bytesOfRequest}
 use Rattle.fast_replies.specs.Direct.{written}
@@ -29,11 +27,7 @@ askBytes call path = bytesOfRequest published (ask (pathOf call) path)
 abbrev pub offered : (features call : ℕ) → Bool
 offered features call = pick (eqb call 2) (isOne (features % 2)) (pick (eqb call 4) (isOne (features / 2 % 2)) true)
 
--- its path is refused neither by 7 nor by 8
-abbrev pub isNone : Option Answer → Bool
-isNone none = true
-isNone (some a) = false
-
+-- its path is refused neither by 8 nor by 7
 abbrev pub isPath : List ℕ → Bool
 isPath path = isNone (pathRefusal published path)
 

@@ -20,8 +20,7 @@ use record::HEAD;
 use record::TAIL;
 use recv_buf::RecvBuf;
 use request_message::compose_lent;
-use request_refusal::Check;
-use request_refusal::check_path;
+use request_path::path_refusal;
 
 // The id of a call's message.
 fn path_id(call: u32) -> SyncId
@@ -49,16 +48,12 @@ fn is_offered(features: usize, call: u32) -> bool
     true
 }
 
-// Neither 7 nor 8.
+// Neither 8 nor 7.
 fn is_path(path: &[u8]) -> bool
     ensures { λ r. ⌜ r ≡ isPath (now (path .entry)) ⌝ }
 {
-    let check = check_path(path);
-    match check {
-        Check::Fine => true,
-        Check::Refused(_) => false,
-        Check::Missing(_) => false,
-    }
+    let number = path_refusal(path);
+    number == 0
 }
 
 // The held bytes to the front, and the message behind them.

@@ -8,9 +8,10 @@ use native.Mathlib.Nat.{add-zero, zero-add, suc-add, add-assoc, mul-comm, div-on
 use native.Mathlib.Omega.{arith}
 use borrow.Author.Tests.{le-leb, lt-leb, eq-eqb, ne-eqb}
 use lib.Arith.{mod-mul, digits-div, digits-mod}
+use lib.Dec.{eqb}
 use lib.ListN.{length, take, drop, getD, set, length-append, length-take, length-drop, drop-of-length-le, take-append-drop}
 use lib.Seq.{drop-cons, sets, sets-eq, paste, take-length, length-take-le, take-all, take-at, drop-append-add, drop-drop}
-use Rattle.protocol.specs.Bytes.{Bytes, same, has, le, bytesOf, numberAt, whole, over, put, putLength}
+use Rattle.protocol.specs.Bytes.{pick, Bytes, same, has, le, bytesOf, numberAt, whole, over, put, putLength}
 
 -- lists compared
 pub same-refl : (s : List ℕ) → same s s ≡ true
@@ -26,6 +27,23 @@ same-eq (x ∷ xs) (y ∷ ys) e = go (same-eq xs ys) (ℕ-discrete x y)
     go : (same xs ys ≡ true → xs ≡ ys) → Dec (x ≡ y) → x ∷ xs ≡ y ∷ ys
     go rest (yes h) = let r = rest (rw (eq-eqb x y h) at e) in cc
     go rest (no f) = let z : false ≡ true = rw (ne-eqb x y f) at e in cc
+
+-- what stands in a list
+pub has-append : (b : ℕ) (s t : List ℕ) → has b (s ++ t) ≡ pick (has b s) true (has b t)
+has-append b [] t = refl
+has-append b (x ∷ s) t = go (has-append b s t) (eqb x b)
+  where
+    go : has b (s ++ t) ≡ pick (has b s) true (has b t)
+        → (q : Bool) → pick q true (has b (s ++ t)) ≡ pick (pick q true (has b s)) true (has b t)
+    go rest true = refl
+    go rest false = rest
+
+pub has-at : (b : ℕ) (s t : List ℕ) → has b (s ++ b ∷ t) ≡ true
+has-at b s t = rw (has-append b s (b ∷ t), eq-eqb b b refl) (go (has b s))
+  where
+    go : (q : Bool) → pick q true true ≡ true
+    go true = refl
+    go false = refl
 
 -- bytes of a list's parts
 pub bytes-head : (x : ℕ) (s : List ℕ) → Bytes (x ∷ s) → x < 256

@@ -15,6 +15,7 @@ use lib.ListN.{length, getD, drop, length-append, drop-of-length-le, List·getD-
 use lib.Seq.{append-snoc, drop-cons}
 use Rattle.protocol.specs.Bytes.{pick, has}
 use Rattle.protocol.specs.Decimal.{digitsBy, decimal, isDigit, spelled, canonical}
+use Rattle.protocol.proofs.Bytes.{has-append}
 
 -- more than enough fuel alters nothing
 digits-fuel : (f g n : ℕ) → n ≤ f → n ≤ g → digitsBy f n ≡ digitsBy g n
@@ -81,15 +82,6 @@ digit-in b h k = rw (le-leb 48 b h, lt-ltb b 58 k)
 
 digit-out : (b : ℕ) → (48 ≤ b → b < 58 → ⊥) → isDigit b ≡ false
 digit-out b f = eq-false-of-not-eq-true (λ e. let (low, high) = digit-range b e in f low high)
-
-has-append : (b : ℕ) (s t : List ℕ) → has b (s ++ t) ≡ pick (has b s) true (has b t)
-has-append b [] t = refl
-has-append b (x ∷ s) t = go (has-append b s t) (eqb x b)
-  where
-    go : has b (s ++ t) ≡ pick (has b s) true (has b t)
-        → (q : Bool) → pick q true (has b (s ++ t)) ≡ pick (pick q true (has b s)) true (has b t)
-    go rest true = refl
-    go rest false = rest
 
 -- a byte that is no digit's stands in no decimal
 pub decimal-has-not : (b n : ℕ) → isDigit b ≡ false → has b (decimal n) ≡ false

@@ -1,21 +1,24 @@
 -- The facts of `specs/Limits.antt` hold. Assumes nothing.
 use Prim.Native.Nat.{ℕ, zero, suc, _+_, _-_, _≤_, _<_}
-use mathlib.Core.List.{List, [], _∷_, _++_, append-nil}
+use mathlib.Core.Bool.{Bool, true, false}
+use mathlib.Core.List.{List, [], _∷_, _++_, map, append-nil}
 use mathlib.Core.Path.{_≡_, refl, sym, ap, _∙_}
 use native.Mathlib.Omega.{arith}
 use borrow.Author.Tests.{lt-ltb, le-ltb}
-use lib.ListN.{length, take, drop, length-append, length-drop, drop-of-length-le}
+use lib.ListN.{length, take, drop, replicate, length-append, length-drop, drop-of-length-le}
 use lib.Seq.{take-at, drop-at, take-all}
-use Rattle.protocol.specs.Bytes.{ascii}
-use Rattle.protocol.specs.Calls.{messages, cutBy, cut, chunks}
+use Rattle.protocol.specs.Bytes.{ascii, has}
+use Rattle.protocol.specs.Calls.{call, messages, cutBy, cut, chunks}
 use Rattle.protocol.specs.Fact.{Hold}
 use Rattle.protocol.specs.Flags.{refusedFlags, several, unknown, dryRun}
 use Rattle.protocol.specs.Decimal.{decimal, canonical}
 use Rattle.protocol.specs.Refusal.{pathRefusal, flagRefusal, featureRefusal, transferRefusal, requestRefusal, refusal}
-use Rattle.protocol.specs.Limits.{Limits, lengths}
+use Rattle.protocol.specs.Limits.{Limits, host, lengths}
 use Rattle.protocol.specs.Messages.{dataMost, bytesOfRequest, messageOf}
 use Rattle.protocol.specs.Reader.{writes}
+use Rattle.protocol.specs.Refusals.{withPath}
 use Rattle.protocol.proofs.Decimal.{decimal-canonical}
+use Rattle.protocol.proofs.Refusals.{has-no-nul}
 
 -- more steps than bytes come to the same parts
 cut-enough : (f g : ℕ) (x : List ℕ) → length x ≤ f → length x ≤ g → cutBy f x ≡ cutBy g x
@@ -55,15 +58,23 @@ ten-digits : decimal 4294967295 ≡ ascii "4294967295"
 unfolding canonical
 ten-digits = let (e, small) = decimal-canonical (ascii "4294967295") 4294967295 refl in sym e
 
+over-unwritten : (p : List ℕ) → 1024 < length p → map (λ q. writes host (call q)) (withPath 33188 4 p) ≡ replicate 8 []
+unfolding pathRefusal requestRefusal refusal writes
+over-unwritten p l = go (has 0 p) refl
+  where
+    go : (nul : Bool) → has 0 p ≡ nul → map (λ q. writes host (call q)) (withPath 33188 4 p) ≡ replicate 8 []
+    go true z = simp (z, lt-ltb _ _ l)
+    go false z = simp (z, lt-ltb _ _ l)
+
 pub limits : Limits
 unfolding pathRefusal requestRefusal refusal messages writes bytesOfRequest messageOf
 limits =
     record {
-      path-fits = λ p l z. rw (le-ltb _ _ l, z);
-      path-over = λ p l. rw (lt-ltb _ _ l);
-      longest-asked = λ p l z. rw (l, z, append-nil p, append-nil p);
-      longest-sent = λ p l z. rw (l, z, ten-digits, append-nil (p ++ ascii ",4294967295"));
-      over-unwritten = λ p l. rw (lt-ltb _ _ l);
+      path-fits = λ p n l. simp (has-no-nul p n, le-ltb _ _ l);
+      path-over = λ p n l. simp (has-no-nul p n, lt-ltb _ _ l);
+      longest-asked = λ p n l. rw (l, has-no-nul p n, append-nil p, append-nil p);
+      longest-sent = λ p n l. rw (l, has-no-nul p n, ten-digits, append-nil (p ++ ascii ",4294967295"));
+      over-unwritten = over-unwritten;
       data-unrefused = λ x. refl;
       data-none = ap chunks cut-none;
       data-one = λ x n l. ap chunks (cut-one x n l);

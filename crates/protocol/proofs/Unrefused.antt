@@ -33,10 +33,13 @@ unrefused true a e = absurd (Option·none-ne-some a (sym e))
 
 path-ok : (d : Dialect) (p : List ℕ) → pathRefusal d p ≡ none → PathOk d p
 unfolding pathRefusal
-path-ok d p e =
-    let long = refuse (ltb (d .longest) (length p)) (refused 7) in
-    let nul = refuse (has 0 p) (refused 8) in
-    record { short = ltb-false _ _ (unrefused _ _ (or-left long nul e)); noNul = unrefused _ _ (or-right long nul e) }
+path-ok d p e = go (has 0 p) (ltb (d .longest) (length p)) refl refl
+  where
+    go : (nul long : Bool) → has 0 p ≡ nul → ltb (d .longest) (length p) ≡ long → PathOk d p
+    go false false z l = record { short = ltb-false _ _ l; noNul = z }
+    go false true z l = absurd (Option·none-ne-some _ (sym (simp (z, l) at e)))
+    go true false z l = absurd (Option·none-ne-some _ (sym (simp (z, l) at e)))
+    go true true z l = absurd (Option·none-ne-some _ (sym (simp (z, l) at e)))
 
 flags-ok : (pull : Bool) (f : ℕ) → flagRefusal pull f ≡ none → refusedFlags pull f ≡ false
 unfolding flagRefusal

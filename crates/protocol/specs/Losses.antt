@@ -106,7 +106,7 @@ unclosed =
 -- "A call first meets refusals 6 to 10 in their order; a refused call changes nothing", whatever is reported of it
 abbrev turned : List (Fact Reply)
 turned =
-    each (call (ask stat (0 ∷ [])) ∷ call (send (0 ∷ []) 1) ∷ []) (broke closed) (error 7) (fail3 ++ ascii "no!")
+    each (call (ask stat (0 ∷ [])) ∷ call (send (0 ∷ []) 1) ∷ call (send (replicate 1024 97 ++ 0 ∷ []) 1) ∷ []) (broke closed) (error 7) (fail3 ++ ascii "no!")
     (left (A.refused 8) (fail3 ++ ascii "no!"))
 
 abbrev pub losses : List (Fact Reply)

@@ -85,7 +85,7 @@ pub record PathOk (d : Dialect) (p : List ℕ) : Type 0 where
 abbrev pub dataMost : ℕ
 dataMost = 65536
 
--- the requests that the host writes: those that 7, 8 and 9 let pass, with numbers of 32 bits, and data that is cut at 65,536
+-- the requests that the host writes: those that 8, 7 and 9 let pass, with numbers of 32 bits, and data that is cut at 65,536
 abbrev pub HostWrites : Dialect → Request → Type 0
 HostWrites d (ask i p) = PathOk d p
 HostWrites d (rcv2 p f) = PathOk d p × ((refusedFlags true f ≡ false) × (f < 0x1_0000_0000))

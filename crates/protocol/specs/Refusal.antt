@@ -1,4 +1,4 @@
--- The refusals 6 to 10 of a call, in their order.
+-- The refusals 6 to 10 of a call, in their order: 6, 8, 7, 9, 10 (document 01's, as document 02's [6] has changed it).
 -- Assumes nothing.
 use Prim.Native.Nat.{ℕ, zero, suc}
 use mathlib.Core.Bool.{Bool, true, false, _&&_, not}
@@ -27,9 +27,13 @@ orElse none b = b
 abbrev pub refuse : Bool → Answer → Option Answer
 refuse b a = pick b (some a) none
 
--- 7 and 8
+abbrev pub isNone : Option Answer → Bool
+isNone none = true
+isNone (some a) = false
+
+-- 8, then 7: "The NUL test now precedes the length test" (document 02, [6])
 unfoldable pub pathRefusal : Dialect → List ℕ → Option Answer
-pathRefusal d p = orElse (refuse (ltb (d .longest) (length p)) (refused 7)) (refuse (has 0 p) (refused 8))
+pathRefusal d p = orElse (refuse (has 0 p) (refused 8)) (refuse (ltb (d .longest) (length p)) (refused 7))
 
 -- 9
 unfoldable pub flagRefusal : Bool → ℕ → Option Answer
@@ -55,7 +59,7 @@ askFeature has list = none
 askFeature has lis2 = featureRefusal has true 2
 askFeature has recv = none
 
--- 7 to 10 of a request
+-- 8, 7, 9 and 10 of a request
 unfoldable pub requestRefusal : Setting → Request → Option Answer
 requestRefusal g (ask i p) = orElse (pathRefusal (g .dialect) p) (askFeature (g .features) i)
 requestRefusal g (rcv2 p f) = orElse (pathRefusal (g .dialect) p) (orElse (flagRefusal true f) (transferRefusal (g .features) f))

@@ -1,16 +1,20 @@
--- The refusals 6 to 10 as one table: a call beside what document 01 answers, at a longest path of three bytes. `proofs/Refusals.antt`
--- shows that `refusal` gives these answers.
+-- The refusals 6 to 10 as one table: a call beside what the documents answer, at a longest path of three bytes. "The written order becomes
+-- 1, 2, then 3, 6, 4, 5, 8, 7, 9, 10" (document 02, [6]). `proofs/Refusals.antt` shows that `refusal` gives these answers. Then what holds of
+-- every path.
 -- Assumes nothing.
-use Prim.Native.Nat.{ℕ}
-use mathlib.Core.Bool.{Bool, true, false}
+use Prim.Native.Nat.{ℕ, _≤_, _<_}
+use mathlib.Core.Bool.{Bool, true, false, not}
 use mathlib.Core.List.{List, [], _∷_, _++_, map}
 use mathlib.Core.Option.{Option, none, some}
+use mathlib.Core.Path.{_≡_}
+use lib.ListN.{length, replicate}
 use Rattle.protocol.specs.Answers.{Answer, refused, missing}
 use Rattle.protocol.specs.Bytes.{ascii, has}
 use Rattle.protocol.specs.Calls.{Call, call, nextEntry, nextChunk, v1, v2}
-use Rattle.protocol.specs.Refusal.{Setting}
-use Rattle.protocol.specs.Ids.{letters}
+use Rattle.protocol.specs.Refusal.{Setting, isNone, pathRefusal, refusal}
+use Rattle.protocol.specs.Ids.{Dialect, letters}
 use Rattle.protocol.specs.Messages.{stat, sta2, list, lis2, recv, Request, ask, rcv2, send, snd2, chunk, done, quit}
+use Rattle.protocol.specs.Requests.{badPath}
 
 -- the numbers of the features that are there, whether the session has ended, the call, its refusal
 pub record Row : Type 0 where
@@ -34,18 +38,25 @@ row features q a = record { features = features; ended = false; made = call q; p
 abbrev each : Option Answer → List Request → List Row
 each a qs = map (λ q. row [] q a) qs
 
--- every request with a path, and flags that are refused
-abbrev withPath : List ℕ → List Request
-withPath p = ask stat p ∷ ask sta2 p ∷ ask list p ∷ ask lis2 p ∷ ask recv p ∷ rcv2 p 3 ∷ send p 0 ∷ snd2 p 0 3 ∷ []
+-- every request with a path, with this mode and these flags
+abbrev pub withPath : (mode flags : ℕ) → List ℕ → List Request
+withPath m f p = ask stat p ∷ ask sta2 p ∷ ask list p ∷ ask lis2 p ∷ ask recv p ∷ rcv2 p f ∷ send p m ∷ snd2 p m f ∷ []
 
--- 7 before 8, 8 before 9, 9 before 10
+-- .. and flags that are refused
+abbrev misflagged : List ℕ → List Request
+misflagged p = withPath 0 3 p
+
+-- 8 before 7, 7 before 9, 9 before 10
 abbrev paths : List Row
 paths =
     each none (ask stat (ascii "/ab") ∷ ask list (ascii "/ab") ∷ ask recv (ascii "/ab") ∷ send (ascii "/ab") 0 ∷ [])
-    ++ each (some (refused 7)) (withPath (ascii "/abc"))
-    ++ each (some (refused 7)) (withPath (0 ∷ ascii "abc"))
-    ++ each (some (refused 8)) (withPath (ascii "/a" ++ 0 ∷ []))
-    ++ each (some (refused 8)) (withPath (0 ∷ []))
+    -- a NUL in a path that is not too long, and in one that is: before the limit, first behind it, far behind it
+    ++ each (some (refused 8)) (misflagged (0 ∷ []))
+    ++ each (some (refused 8)) (misflagged (ascii "/a" ++ 0 ∷ []))
+    ++ each (some (refused 8)) (misflagged (0 ∷ ascii "abc"))
+    ++ each (some (refused 8)) (misflagged (ascii "/ab" ++ 0 ∷ []))
+    ++ each (some (refused 8)) (misflagged (ascii "/abcdefg" ++ 0 ∷ ascii "h"))
+    ++ each (some (refused 7)) (misflagged (ascii "/abc"))
     ++ each (some (refused 9)) (rcv2 [] 3 ∷ snd2 [] 0 3 ∷ rcv2 [] 8 ∷ snd2 [] 0 8 ∷ rcv2 [] 0x8000_0000 ∷ [])
     ++ each none (chunk (0 ∷ ascii "abc") ∷ done 0 ∷ quit ∷ [])
 
@@ -86,7 +97,31 @@ steps = map (λ q. record { features = []; ended = false; made = q; paper = none
 abbrev late : List Row
 late =
     map (λ q. record { features = []; ended = true; made = q; paper = some (refused 6) })
-    (map call (withPath (0 ∷ ascii "abc")) ++ call (ask stat []) ∷ call (chunk []) ∷ call (done 0) ∷ call quit ∷ nextEntry v1 ∷ nextEntry v2 ∷ nextChunk ∷ [])
+    (map call (misflagged (0 ∷ ascii "abc") ++ misflagged (ascii "/abc")) ++ call (ask stat []) ∷ call (chunk []) ∷ call (done 0) ∷ call quit ∷ nextEntry v1 ∷ nextEntry v2 ∷ nextChunk ∷ [])
 
 abbrev pub rows : List Row
 rows = paths ++ features ++ steps ++ late
+
+-- ---- every path, in every request that has one, whatever the limit, the mode, the flags and the features
+
+-- what a session that has not ended answers to some requests
+abbrev pub answers : Dialect → (features : List Bool) → List Request → List (Option Answer)
+answers d has qs = map (λ q. refusal (record { dialect = d; features = has; ended = false }) (call q)) qs
+
+-- any byte but NUL
+abbrev pub NoNul : List ℕ → Type 0
+NoNul [] = Unit {0}
+NoNul (b ∷ p) = (0 < b) × NoNul p
+
+pub record PathsRefused : Type 0 where
+  -- "A path over 1,024 bytes with a NUL gave 7 and now gives 8": wherever the NUL lies, however long the path is
+  pub nul : (d : Dialect) (has : List Bool) (m f : ℕ) (before behind : List ℕ)
+      → answers d has (withPath m f (before ++ 0 ∷ behind)) ≡ replicate 8 (some (refused 8))
+  -- 7 for a longer path without one
+  pub over : (d : Dialect) (has : List Bool) (m f : ℕ) (p : List ℕ) → NoNul p → d .longest < length p
+      → answers d has (withPath m f p) ≡ replicate 8 (some (refused 7))
+  -- any other path is answered as an empty one, whatever bytes it has
+  pub fits : (d : Dialect) (has : List Bool) (m f : ℕ) (p : List ℕ) → NoNul p → length p ≤ d .longest
+      → answers d has (withPath m f p) ≡ answers d has (withPath m f [])
+  -- the request reader's test of a path, 18 either way, holds of the same paths
+  pub reader : (d : Dialect) (p : List ℕ) → badPath d p ≡ not (isNone (pathRefusal d p))

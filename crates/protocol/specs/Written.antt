@@ -14,7 +14,7 @@ use Rattle.protocol.specs.Messages.{ask, stat, sta2, list, lis2, recv, R
 use Rattle.protocol.specs.Reader.{Config, accepted, writes}
 
 -- a session with these features
-abbrev session : List Bool → Config
+abbrev pub session : List Bool → Config
 session features = record { setting = record { dialect = published; features = features; ended = false }; capacity = 8; close = accepted }
 
 -- what a call writes where every feature is there

@@ -22,7 +22,7 @@ unfolding featureRefusal
 feature-at fs needed zero h = absurd (not-suc-le-zero h)
 feature-at fs needed (suc n) h = refl
 
--- 7 to 10 do not depend on whether the session has ended
+-- 8, 7, 9 and 10 do not depend on whether the session has ended
 pub ended-alike : (d : Dialect) (fs : List Bool) (e f : Bool) (q : Request)
     → requestRefusal (record { dialect = d; features = fs; ended = e }) q ≡ requestRefusal (record { dialect = d; features = fs; ended = f }) q
 unfolding requestRefusal

@@ -1,4 +1,4 @@
-// The refusals 7 to 10 of a request, in their order (000's `check_path` and `require_sendrecv_v2`).
+// The refusals of a request, in their order: 8, 7, 9, 10 (000's `check_path` and `require_sendrecv_v2`).
 ghost use mathlib.Core.Path.{_≡_};
 ghost use Prim.Native.Nat.{_<_};
 ghost use Rattle.features.specs.Meaning.{listed};
@@ -9,12 +9,11 @@ ghost use Rattle.request.specs.Meaning.{meant};
 use features::Features;
 use format_flags::SyncFlags;
 use request::Request;
-use request_path::MAX_PATH;
-use request_path::has_nul;
+use request_path::path_refusal;
 
 pub enum Check {
     Fine,
-    // Answer 7, 8 or 9.
+    // Answer 8, 7 or 9.
     Refused(u8),
     // Answer 10, with the number of the missing feature.
     Missing(u8),
@@ -33,17 +32,15 @@ impl Check {
     }
 }
 
-// 7, then 8.
-pub fn check_path(path: &[u8]) -> Check
+// 8, then 7.
+fn check_path(path: &[u8]) -> Check
     ensures { λ r. ⌜ checked r ≡ pathRefusal published (now (path .entry)) ⌝ }
 {
-    if MAX_PATH < path.len() {
-        return Check::Refused(7);
+    let number = path_refusal(path);
+    if number == 0 {
+        return Check::Fine;
     }
-    if has_nul(path) {
-        return Check::Refused(8);
-    }
-    Check::Fine
+    Check::Refused(number)
 }
 
 // 9.

@@ -54,7 +54,7 @@ plain-feature l b (suc n) = plain-refuse (b && not (getD l n false)) (by-feature
 
 plain-path : (d : Dialect) (p : List ℕ) → Plain (pathRefusal d p)
 unfolding pathRefusal
-plain-path d p = plain-else (plain-refuse (ltb (d .longest) (length p)) (by-number 7)) (plain-refuse (has 0 p) (by-number 8))
+plain-path d p = plain-else (plain-refuse (has 0 p) (by-number 8)) (plain-refuse (ltb (d .longest) (length p)) (by-number 7))
 
 plain-transfer : (pull : Bool) (l : List Bool) (f : ℕ) → Plain (orElse (flagRefusal pull f) (transferRefusal l f))
 unfolding flagRefusal transferRefusal

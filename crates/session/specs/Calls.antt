@@ -1,4 +1,4 @@
--- Opening a session and starting a call: the refusals in document 01's order (1, 2; then 3, 6, 4, 7, 8, 9, 10), then the first step.
+-- Opening a session and starting a call: the refusals in their order (1, 2; then 3, 6, 4, 8, 7, 9, 10: document 02, [6]), then the first step.
 -- Assumes nothing.
 use Prim.Native.Nat.{ℕ}
 use mathlib.Core.Bool.{Bool, true, false}
@@ -73,7 +73,7 @@ refusedOr k s o = pick (ltb 0 k) (out (refusing (s .ses) (A.Refused k)) (s .rx) 
 abbrev pub refusalOf : St → ℕ
 refusalOf s = callRefusal (s .ses) (length (s .rx)) (length (s .msg))
 
--- 7 to 10, as the plain reader has them
+-- 8, 7, 9 and 10, as the plain reader has them
 abbrev pub settingOf : Session → Setting
 settingOf s = record { dialect = published; features = listed (s .features); ended = s .ended }
 

@@ -1,4 +1,4 @@
-// Opens a session and starts its calls: the refusals in document 01's order, then the first step (000's sync.rs, `SyncSession`).
+// Opens a session and starts its calls: the refusals in their order, then the first step (000's sync.rs, `SyncSession`).
 ghost use mathlib.Core.Path.{_≡_};
 ghost use lib.ListN.{length};
 ghost use Rattle.session.specs.Calls.{callRefusal, startCall, entryCall, chunkCall};

@@ -153,7 +153,7 @@ fn path(rng: &mut Rng, capacity: usize, kind: Kind) -> String {
         let at = (0..=path.len()).filter(|i| path.is_char_boundary(*i)).nth(rng.below(path.len() / 4 + 1)).unwrap_or(0);
         path.insert(at, '\0');
     }
-    // what is over the limit is in `differences`
+    // what is over the limit is in `differences`, and with a NUL in `trials`
     while path.len() > PATH_MOST {
         path.pop();
     }

@@ -22,14 +22,17 @@ fn refused_by_both(call: &Call) -> bool {
     (call.flags & 7).count_ones() > 1 || (call.pulls() && call.flags & DRY_RUN != 0)
 }
 
-/// The number by which this library alone refuses a call (7, or 9 for a bit that no document names), if it does.
+/// The number by which this library alone refuses a call (7, or 9 for a bit that no document names), if it does. A path with a NUL is 8 on
+/// both sides, before all that.
 pub fn refused_here(call: &Call) -> Option<u32> {
-    if call.takes_path() && call.path.len() > PATH_MOST {
+    if !call.takes_path() || call.path.contains('\0') {
+        return None;
+    }
+    if call.path.len() > PATH_MOST {
         return Some(7);
     }
-    let nul = call.path.contains('\0');
     let unknown = call.takes_flags() && call.flags & !KNOWN_FLAGS != 0;
-    (unknown && !nul && !refused_by_both(call)).then_some(9)
+    (unknown && !refused_by_both(call)).then_some(9)
 }
 
 /// Whether both sides go on to write for this call.

@@ -1,7 +1,8 @@
-//! Document 01's trial pieces, each made on both sides and held to what the document says.
+//! Document 01's trial pieces, and what document 02's [6] says of paths with a NUL, each made on both sides and held to what the document
+//! says.
 use crate::beside::{compare, Tally};
 use crate::call::{Answer, Call, What, Why};
-use crate::intended::silent;
+use crate::intended::{silent, PATH_MOST};
 use crate::ours;
 use crate::plan::List;
 use crate::scripted::{shared, Op};
@@ -43,7 +44,7 @@ impl Trials {
         let verdict = match compare(list, &mut Tally::default()) {
             Err(text) => Err(text),
             Ok(()) if expected(&seen(list)) => Ok(()),
-            Ok(()) => Err("both sides are equal, and not as document 01 says".to_string()),
+            Ok(()) => Err("both sides are equal, and not as the documents say".to_string()),
         };
         self.shown += 1;
         match verdict {
@@ -117,6 +118,27 @@ fn several(t: &mut Trials) {
     }
 }
 
+// "A path may be too long and hold a NUL": 8, wherever it lies, before 7, 9 and 10; a path is never over the limit in `lists`
+fn nuls(t: &mut Trials) {
+    let starts = [
+        What::Stat, What::StatV2, What::List, What::ListV2, What::RecvStart, What::RecvV2Start, What::SendStart, What::SendV2Start,
+    ];
+    let long = |len: usize| "p".repeat(len);
+    let paths = [
+        ("a NUL alone", "\0".to_string()),
+        ("1,024 bytes, the last a NUL", long(PATH_MOST - 1) + "\0"),
+        ("1,024 bytes and a NUL", long(PATH_MOST) + "\0"),
+        ("a NUL and 1,024 bytes", "\0".to_string() + &long(PATH_MOST)),
+        ("a NUL as byte 70,000 of 80,000", long(69_999) + "\0" + &long(10_000)),
+    ];
+    for (name, path) in paths {
+        let calls = starts.map(|what| flags(Call::on(what, &path), 3)).to_vec();
+        t.show(&format!("{name}, flags 3"), &list("", 64, b"", calls), |s| {
+            s.iter().all(|seen| seen.answer == Answer::Not(Why::Refused(8)) && seen.pieces.is_empty())
+        });
+    }
+}
+
 fn header(len: usize) -> Vec<u8> {
     [&b"DATA"[..], &(len as u32).to_le_bytes()].concat()
 }
@@ -140,6 +162,7 @@ pub fn run() -> bool {
     requests(&mut trials);
     replies(&mut trials);
     several(&mut trials);
+    nuls(&mut trials);
     data(&mut trials);
     println!("{} checks of trial pieces, {} wrong", trials.shown, trials.wrong);
     trials.wrong == 0

@@ -9,6 +9,7 @@ use std::{fmt, io};
 /// has them all, docs/ANSWERS.md what to do about each.
 ///
 /// 1 to 11 are the caller's: session and buffers are as before. 12 and 13 are the link's, 14 to 17 the panel's.
+/// Where several apply, the first of 1, 2, then 3, 6, 4, 5, 8, 7, 9, 10 is answered; of a report 3, 6, 5, 11.
 /// An error borrows nothing: the text of a FAIL is copied out of the message buffer, so `?` hands it on to any caller.
 ///
 /// ```
@@ -34,9 +35,9 @@ pub enum Error {
     NotAwaited,
     /// 6: a call after quit.
     Ended,
-    /// 7: a path over 1,024 bytes ([`PATH_MOST`](crate::PATH_MOST)).
+    /// 7: a path over 1,024 bytes ([`PATH_MOST`](crate::PATH_MOST)), none of them NUL.
     LongPath,
-    /// 8: a NUL in the path.
+    /// 8: a NUL in the path, however long it is.
     NulInPath,
     /// 9: flags that no transfer of this kind takes.
     Flags,

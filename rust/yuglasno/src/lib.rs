@@ -62,7 +62,8 @@ pub use transfers::Failure;
 #[doc = include_str!("../../../README.md")]
 struct Readme;
 
-/// The most bytes of a path: panels end the session over a longer one, so it is turned away here ([`Error::LongPath`]).
+/// The most bytes of a path: panels end the session over a longer one, so it is turned away here
+/// ([`Error::LongPath`]; [`Error::NulInPath`] where it has a NUL besides).
 pub const PATH_MOST: usize = 1_024;
 /// The most bytes in one DATA message.
 pub const DATA_MOST: usize = 65_536;

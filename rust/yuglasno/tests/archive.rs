@@ -103,6 +103,17 @@ fn names_that_are_refused() {
     whole(&dir, 2);
 }
 
+/// The NUL is what is mended first: what follows it was often never meant as a name.
+#[test]
+fn a_name_that_is_too_long_and_has_a_nul() {
+    let name = [&b"m\0"[..], &[b'n'; 5000]].concat();
+    let shelf = Shelf::default().job("/f", b"good", b"good").job("/f", &name, b"bad");
+    let (dir, (status, said, error)) = shelved("long with a NUL", shelf, V2);
+    assert_eq!((status, said), (79, counts(&dir, 1, 0, 1)), "{error}");
+    assert!(error.contains("left out: m\\0n") && error.contains("n: a name with a NUL"), "{error}");
+    whole(&dir, 1);
+}
+
 /// It may be a job: a run that does not bring it is not whole.
 #[test]
 fn an_entry_that_may_be_anything() {

@@ -68,9 +68,10 @@ fn paths_flags_and_features() {
     let long = vec![b'p'; PATH_MOST + 1];
     let long_with_nul = [&long[..], &[0]].concat();
     let mode = FileMode(0);
-    let cases: [(&[u8], Call, Error); 17] = [
+    let cases: [(&[u8], Call, Error); 18] = [
         (b"", Call::Stat(&long), Error::LongPath),
-        (b"", Call::RecvV2(&long_with_nul, SyncFlags(3)), Error::LongPath),
+        (b"", Call::RecvV2(&long, SyncFlags(3)), Error::LongPath),
+        (b"", Call::RecvV2(&long_with_nul, SyncFlags(3)), Error::NulInPath),
         (b"", Call::List(b"/a\0b"), Error::NulInPath),
         (b"", Call::ListV2(b"\0"), Error::NulInPath),
         (b"", Call::Send(b"\0", mode), Error::NulInPath),
@@ -97,6 +98,9 @@ fn paths_flags_and_features() {
     }
 }
 
+/// A banner with the features that the calls below need.
+const ALL: &[u8] = b"features=stat_v2,ls_v2,sendrecv_v2,sendrecv_v2_lz4,sendrecv_v2_zstd";
+
 /// The calls that have a path, each beside the bytes that it writes.
 fn with_path(path: &[u8]) -> [(Call<'_>, Vec<u8>); 8] {
     let mode = FileMode(u32::MAX);
@@ -116,7 +120,6 @@ fn with_path(path: &[u8]) -> [(Call<'_>, Vec<u8>); 8] {
 /// Lengths about the limit, in buffers that take such a message whole and in those that don't.
 #[test]
 fn paths_about_the_limit() {
-    const ALL: &[u8] = b"features=stat_v2,ls_v2,sendrecv_v2,sendrecv_v2_lz4,sendrecv_v2_zstd";
     assert_eq!(PATH_MOST, 1024);
     for length in [0, 1, 1023, 1024, 1025, 1026, 1035, 1036, 4096, 65_535, 65_536, 65_537, 70_000] {
         let path = vec![b'p'; length];
@@ -133,6 +136,41 @@ fn paths_about_the_limit() {
             }
         }
     }
+}
+
+/// A NUL is 8 wherever it lies, in a path that is too long too: the whole path is searched, in buffers that would take its message whole
+/// and in those that would not.
+#[test]
+fn a_nul_in_a_path_of_any_length() {
+    for length in [1, 2, 1023, 1024, 1025, 1026, 1036, 4096, 65_536, 65_537, 70_000, 1_000_000] {
+        let places = [0, 1, 7, 8, 1022, 1023, 1024, 1025, 4095, 65_535, 65_536, 69_999, length / 2, length - 1];
+        for place in places.into_iter().filter(|place| *place < length) {
+            let mut path = vec![b'p'; length];
+            path[place] = 0;
+            for (banner, capacity) in [(&b""[..], 40), (ALL, 40), (ALL, length + 64)] {
+                let told = refusals_of(&path, banner, capacity);
+                assert_eq!(told, [8; 10], "byte {place} of {length}, capacity {capacity}");
+            }
+        }
+    }
+}
+
+/// The answers to each call that has this path, and to transfers with flags that are refused besides; none writes a byte, and the session
+/// goes on after each.
+fn refusals_of(path: &[u8], banner: &[u8], capacity: usize) -> [u32; 10] {
+    let misflagged = [Call::RecvV2(path, SyncFlags(3)), Call::SendV2(path, FileMode(0), SyncFlags(8))];
+    let calls = with_path(path).into_iter().map(|(call, _)| call).chain(misflagged);
+    let mut session = Session::open(banner, vec![0; capacity], vec![0; capacity]).unwrap();
+    let told: Vec<u32> = calls
+        .map(|call| {
+            let mut link = Script::new(&stat(), 1, End::Closed);
+            let told = session.call(&mut link, &call).unwrap_err().number();
+            assert!(link.pieces.is_empty(), "{told}");
+            assert!(session.stat(&mut link, "/a").is_ok(), "the session goes on after {told}");
+            told
+        })
+        .collect();
+    told.try_into().unwrap()
 }
 
 /// The limit is met where a call starts, and nowhere else: one that is pending with a longer path goes on to its end.

@@ -1,17 +1,13 @@
--- `request_path::bad_path` meets its contract. Assumes nothing.
+-- `request_path::bad_path` meets its contract: what is refused by a number is bad. Assumes nothing.
 use borrow.Author.Needs.{needs}
-use borrow.Author.Tests.{lt-ltb, le-ltb}
-use Rattle.protocol.specs.Requests.{badPath}
+use Rattle.protocol.proofs.Refusals.{paths-refused}
+use Rattle.protocol.specs.Ids.{published}
+use Rattle.request_path.proofs.Laws.{none-by}
 use Rattle.request_path.proofs.bad_path.Statement.{statement}
 use Rattle.request_path.proofs.bad_path.Tie as tie
 
 returns : tie.Need-returns
-unfolding badPath
-returns c = simp (lt-ltb _ _ (c .if1 .taken))
-
-returns-2 : tie.Need-returns-2
-unfolding badPath
-returns-2 c = simp (le-ltb _ _ (c .before .if1 .left)) (c .has-nul .ensures)
+returns c = rw (none-by, c .path-refusal .ensures, paths-refused .reader published _)
 
 pub bad-path-spec : {M : Type 1} → statement M
-bad-path-spec = tie.close (tie.spec returns (λ c κs. search needs) returns-2)
+bad-path-spec = tie.close (tie.spec (λ c κs. search needs) returns)

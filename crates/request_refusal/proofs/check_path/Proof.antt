@@ -1,21 +1,14 @@
 -- `request_refusal::check_path` meets its contract. Assumes nothing.
 use borrow.Author.Needs.{needs}
-use borrow.Author.Tests.{lt-ltb, le-ltb}
-use Rattle.protocol.specs.Refusal.{pathRefusal}
+use Rattle.request_path.proofs.Laws.{some-by}
 use Rattle.request_refusal.proofs.check_path.Statement.{statement}
 use Rattle.request_refusal.proofs.check_path.Tie as tie
 
 returns : tie.Need-returns
-unfolding pathRefusal
-returns c = rw (lt-ltb _ _ (c .if1 .taken))
+returns c = rw (← c .before .path-refusal .ensures, c .if1 .taken)
 
 returns-2 : tie.Need-returns-2
-unfolding pathRefusal
-returns-2 c = rw (le-ltb _ _ (c .before .before .if1 .left), ← c .before .has-nul .ensures, c .if2 .taken)
-
-returns-3 : tie.Need-returns-3
-unfolding pathRefusal
-returns-3 c = rw (le-ltb _ _ (c .before .before .if1 .left), ← c .before .has-nul .ensures, c .if2 .left)
+returns-2 c = rw (← c .before .path-refusal .ensures, some-by _ (c .if1 .left))
 
 pub check-path-spec : {M : Type 1} → statement M
-check-path-spec = tie.close (tie.spec returns (λ c κs. search needs) returns-2 returns-3)
+check-path-spec = tie.close (tie.spec (λ c κs. search needs) returns returns-2)

@@ -1,4 +1,4 @@
--- `session_calls::start` meets its contract: refused by 3, 6 or 4, by 7 to 10, or the first message. Assumes nothing.
+-- `session_calls::start` meets its contract: refused by 3, 6 or 4, by 8, 7, 9 or 10, or the first message. Assumes nothing.
 use Rattle.session_calls.proofs.Laws.{start-in}
 use Rattle.session_pump.proofs.Parts.{out-eq, beside-eq}
 use Rattle.session.proofs.Refused.{unless-out}
