@@ -3,7 +3,7 @@
 #
 #   YUGLASNO_000=DIR [YUGLASNO_LIB=DIR] bash rust/bench.sh
 #
-# Needs 000's source, valgrind, size and nm. Instructions are counted by callgrind and repeat exactly; times do not.
+# Needs 000's source, valgrind, python3, size and nm. Instructions are counted by callgrind and repeat exactly; times do not.
 set -euo pipefail
 cd "$(dirname "$0")"
 lib=${YUGLASNO_LIB:-../target/staticlib}/libexports.a
@@ -58,11 +58,7 @@ report() {
 }
 
 library() {
-  echo "| part | bytes |"
-  echo "|---|---|"
-  size -A "$lib" | awk '
-    $1 ~ /^\.text/ {text += $2} $1 ~ /^\.rodata/ {read_only += $2} $1 ~ /^\.data/ && $1 !~ /rel\.ro/ {data += $2} $1 ~ /^\.bss/ {bss += $2}
-    END {printf "| code | %d |\n| read-only data | %d |\n| data that can change | %d |\n", text, read_only, data + bss}'
+  python3 ../tests/size.py table
   echo
   echo "What it calls outside itself: $(nm -u "$lib" | awk '$1 == "U" {print "`" $2 "`"}' | sort -u | paste -sd' ')."
   if nm "$lib" | grep -iqE 'alloc|malloc|calloc|free$|brk|mmap'; then
@@ -145,8 +141,7 @@ TEXT
 
 `transfer archive` from the repository's panel over pipes, beside a plain program that makes, writes, flushes and closes the same files one
 after the other (`rust/archive-bench.sh`). A batch's files are flushed by sixteen threads at the same time, which a journal takes in far
-fewer turns than one after the other; so most of the plain program's waiting is saved. Times of flushes depend on the disk and on who else
-writes to it.
+fewer turns than one after the other. What that saves of the plain program's waiting depends on the disk and on who else writes to it.
 
 TEXT
   bash archive-bench.sh

@@ -1,5 +1,5 @@
 #!/usr/bin/env bash
-# The library beside 000: random lists of calls, document 01's trial pieces and paths with a NUL, the intended differences, and the stored sample.
+# The library beside 000: random lists of calls, document 01's trial pieces, paths with a NUL and banners, the intended differences, and the stored sample.
 #
 #   YUGLASNO_000=DIR [YUGLASNO_LIB=DIR] bash rust/compare.sh [LISTS [SEED]]
 #

@@ -211,9 +211,12 @@ writing-holds = Written.writing-holds
 pub going-holds : Hold WriteFacts.going
 going-holds = Written.going-holds
 
--- banners and their features
+-- banners and their features: rows, and laws of every banner
 pub banners-hold : map (λ (r : BannerFacts.Row). featuresOf (r .banner)) BannerFacts.banners ≡ map BannerFacts.paper BannerFacts.banners
 banners-hold = Banners.banners-hold
+
+pub banners-read : BannerFacts.BannersRead
+banners-read = Banners.banners-read
 
 -- the panel's request reader, decimals, the ids
 pub receiving-holds : Hold ReceiveFacts.receiving

@@ -1,49 +1,57 @@
-// The features that a device's banner lists (000's base/protocol/features.rs).
+// The features that a device's banner lists (000's base/protocol/features.rs). The session's seven are gathered in one pass over the list.
 ghost use mathlib.Core.Path.{_≡_};
 ghost use mathlib.Core.Bool.{false};
 ghost use mathlib.Core.List.{[], _∷_};
-ghost use Prim.Native.Nat.{_≤_};
+ghost use Prim.Native.Nat.{_+_, _≤_};
 ghost use lib.ListN.{length, getD, drop};
 ghost use lib.Seq.{slice};
 ghost use Rattle.protocol.specs.Bytes.{same};
-ghost use Rattle.protocol.specs.Features.{separator, split, someIs, hasFeature, featuresOf};
-ghost use Rattle.features.specs.Meaning.{listed};
+ghost use Rattle.protocol.specs.Features.{marker, restAfter, separator, split, hasFeature, featuresOf};
+ghost use Rattle.features.specs.Meaning.{startsWith, piecesFrom, piecesBehind, Named, listed};
 
 // What the list of features follows.
 const MARKER: [u8; 9] = *b"features=";
 
-// The names of the session's features, in the order of their numbers.
-const STAT_V2: [u8; 7] = *b"stat_v2";
+// The names of the features 1 to LAST: up to LAST_ALONE a name is its tail; the others are the beginning, which is stored once, and a tail.
+const LAST: usize = 7;
 
-const LS_V2: [u8; 5] = *b"ls_v2";
+const LAST_ALONE: usize = 2;
 
-const SENDRECV_V2: [u8; 11] = *b"sendrecv_v2";
+const BEGINNING: [u8; 11] = *b"sendrecv_v2";
 
-const SENDRECV_V2_BROTLI: [u8; 18] = *b"sendrecv_v2_brotli";
+// The tail of feature n goes from ENDS[n - 1] to ENDS[n]; that of the third is empty.
+const TAILS: [u8; 41] = *b"stat_v2ls_v2_brotli_lz4_zstd_dry_run_send";
 
-const SENDRECV_V2_LZ4: [u8; 15] = *b"sendrecv_v2_lz4";
+const ENDS: [u8; 8] = [0, 7, 12, 12, 19, 23, 28, 41];
 
-const SENDRECV_V2_ZSTD: [u8; 16] = *b"sendrecv_v2_zstd";
-
-const SENDRECV_V2_DRY_RUN_SEND: [u8; 24] = *b"sendrecv_v2_dry_run_send";
+// Whether the bytes of s from `from` to `to` begin with text. i starts at `from`, not at 0: otherwise the compiler unrolls the loop, and the
+// beginning becomes eleven comparisons.
+fn begins(s: &[u8], from: usize, to: usize, text: &[u8]) -> bool
+    requires { ⌜ (from ≤ to) × (to ≤ length (now s)) ⌝ }
+    ensures { λ r. ⌜ r ≡ startsWith (now (text .entry)) (slice from to (now (s .entry))) ⌝ }
+{
+    let mut i = from;
+    while i - from < text.len() {
+        if i == to {
+            return false;
+        }
+        if s[i] != text[i - from] {
+            return false;
+        }
+        i += 1;
+    }
+    true
+}
 
 // Whether the bytes of s from `from` to `to` are text.
 fn part_is(s: &[u8], from: usize, to: usize, text: &[u8]) -> bool
     requires { ⌜ (from ≤ to) × (to ≤ length (now s)) ⌝ }
     ensures { λ r. ⌜ r ≡ same (slice from to (now (s .entry))) (now (text .entry)) ⌝ }
 {
-    let count = to - from;
-    if count != text.len() {
+    if to - from != text.len() {
         return false;
     }
-    let mut i = 0;
-    while i < text.len() {
-        if s[from + i] != text[i] {
-            return false;
-        }
-        i += 1;
-    }
-    true
+    begins(s, from, to, text)
 }
 
 fn is_separator(b: u8) -> bool
@@ -55,38 +63,78 @@ fn is_separator(b: u8) -> bool
     b == b';'
 }
 
-// Whether some piece of s from `from` on is the name.
-fn some_is(s: &[u8], from: usize, name: &[u8]) -> bool
-    requires { ⌜ from ≤ length (now s) ⌝ }
-    ensures { λ r. ⌜ r ≡ someIs (now (name .entry)) (split [] (drop from (now (s .entry)))) ⌝ }
+// Where the list behind the banner's first marker begins; past the banner's end where there is no marker.
+fn list_start(banner: &[u8]) -> usize
+    ensures { λ r. ⌜ piecesBehind (restAfter marker (now (banner .entry))) ≡ piecesFrom r (now (banner .entry)) ⌝ }
 {
-    let mut start = from;
+    let mut end = MARKER.len();
+    while end <= banner.len() {
+        if part_is(banner, end - MARKER.len(), end, &MARKER) {
+            return end;
+        }
+        end += 1;
+    }
+    end
+}
+
+// Where the piece of s that begins at `from` ends: at the next separator or at the end of s. The next piece begins one byte further.
+fn piece_end(s: &[u8], from: usize) -> usize
+    requires { ⌜ from ≤ length (now s) ⌝ }
+    ensures { λ r. ⌜
+        (from ≤ r) × (r ≤ length (now (s .entry)))
+        × (split [] (drop from (now (s .entry))) ≡ slice from r (now (s .entry)) ∷ piecesFrom (r + 1) (now (s .entry)))
+        ⌝ }
+{
     let mut i = from;
     while i < s.len() {
-        let next = i + 1;
         if is_separator(s[i]) {
-            if part_is(s, start, i, name) {
-                return true;
-            }
-            start = next;
+            return i;
         }
-        i = next;
+        i += 1;
     }
-    part_is(s, start, i, name)
+    i
 }
 
 // Whether the name is a piece of the list behind the banner's first marker.
 pub fn has_feature(banner: &[u8], name: &[u8]) -> bool
     ensures { λ r. ⌜ r ≡ hasFeature (now (banner .entry)) (now (name .entry)) ⌝ }
 {
-    let mut end = MARKER.len();
-    while end <= banner.len() {
-        if part_is(banner, end - MARKER.len(), end, &MARKER) {
-            return some_is(banner, end, name);
+    let mut start = list_start(banner);
+    while start <= banner.len() {
+        let end = piece_end(banner, start);
+        if part_is(banner, start, end, name) {
+            return true;
         }
-        end += 1;
+        start = end + 1;
     }
     false
+}
+
+// The number of the feature that the bytes of s from `from` to `to` name; 0 where they name none.
+fn number_at(s: &[u8], from: usize, to: usize) -> usize
+    requires { ⌜ (from ≤ to) × (to ≤ length (now s)) ⌝ }
+    ensures { λ r. ⌜ (r ≤ 7) × Named (slice from to (now (s .entry))) r ⌝ }
+{
+    let mut n = 1;
+    let mut last = LAST_ALONE;
+    let mut rest = from;
+    if begins(s, from, to, &BEGINNING) {
+        n = LAST_ALONE + 1;
+        last = LAST;
+        rest = from + BEGINNING.len();
+    }
+    // copied once: each mention of a constant array is a copy
+    let tails = TAILS;
+    let ends = ENDS;
+    while n <= last {
+        let start = ends[n - 1] as usize;
+        let end = ends[n] as usize;
+        if part_is(s, rest, to, &tails[start..end]) {
+            return n;
+        }
+        n += 1;
+    }
+    0
 }
 
 // Which of the session's features a banner has: numbers 1 to 7, in this order.
@@ -104,14 +152,23 @@ impl Features {
     pub fn of(banner: &[u8]) -> Features
         ensures { λ r. ⌜ listed r ≡ featuresOf (now (banner .entry)) ⌝ }
     {
+        // by number; the pieces that name no feature have number 0
+        let mut found = [false; LAST + 1];
+        let mut start = list_start(banner);
+        while start <= banner.len() {
+            let end = piece_end(banner, start);
+            let number = number_at(banner, start, end);
+            found[number] = true;
+            start = end + 1;
+        }
         Features {
-            stat_v2: has_feature(banner, &STAT_V2),
-            ls_v2: has_feature(banner, &LS_V2),
-            sendrecv_v2: has_feature(banner, &SENDRECV_V2),
-            brotli: has_feature(banner, &SENDRECV_V2_BROTLI),
-            lz4: has_feature(banner, &SENDRECV_V2_LZ4),
-            zstd: has_feature(banner, &SENDRECV_V2_ZSTD),
-            dry_run_send: has_feature(banner, &SENDRECV_V2_DRY_RUN_SEND),
+            stat_v2: found[1],
+            ls_v2: found[2],
+            sendrecv_v2: found[3],
+            brotli: found[4],
+            lz4: found[5],
+            zstd: found[6],
+            dry_run_send: found[7],
         }
     }
 

@@ -4,8 +4,11 @@
 -- Assumes nothing.
 use mathlib.Core.Bool.{Bool, true, false}
 use mathlib.Core.List.{List, [], _∷_, _++_, map}
-use Prim.Native.Nat.{ℕ}
-use Rattle.protocol.specs.Bytes.{ascii, has}
+use mathlib.Core.Path.{_≡_}
+use Prim.Native.Nat.{ℕ, _<_}
+use lib.ListN.{length, getD, take, drop}
+use Rattle.protocol.specs.Bytes.{pick, ascii, has}
+use Rattle.protocol.specs.Features.{hasFeature, featuresOf}
 
 -- a banner, and the numbers of its features
 pub record Row : Type 0 where
@@ -55,4 +58,63 @@ banners =
     ∷ row (ascii "features=stat_v22,xls_v2,sendrecv_v,SENDRECV_V2, ls_v2,ls_v2 ") []
     ∷ row (ascii "features=ls_v2:stat_v2") []
     ∷ row (ascii "features=ls_v2|stat_v2 stat_v2") []
+    -- "Four of the other six feature names begin with the third" (document 02, [3]): pieces that only begin like a name, a tail alone or in
+    -- front, names run together
+    ∷ row (ascii "features=sendrecv_v2_,sendrecv_v2_lz,sendrecv_v2_lz44,sendrecv_v2_lz5,sendrecv_v3_lz4,sendrecv_lz4,sendrecv") []
+    ∷ row (ascii "features=_lz4,lz4,_lz4sendrecv_v2,_brotli,_zstd;_dry_run_send;_") []
+    ∷ row (ascii "features=sendrecv_v2sendrecv_v2,sendrecv_v2sendrecv_v2_lz4,sendrecv_v2_lz4_zstd,sendrecv_v2stat_v2,stat_v2ls_v2,ls_v2_lz4") []
     ∷ []
+
+-- ---- as laws, of every banner
+
+abbrev pub theMarker : List ℕ
+theMarker = ascii "features="
+
+abbrev comma : ℕ
+comma = 44
+
+abbrev semicolon : ℕ
+semicolon = 59
+
+-- a list of features is a piece and further ones, each behind a comma or a semicolon
+pub record Further : Type 0 where
+  pub bySemicolon : Bool
+  pub piece : List ℕ
+
+abbrev pub separated : List ℕ → List Further → List ℕ
+separated p [] = p
+separated p (n ∷ ns) = p ++ pick (n .bySemicolon) semicolon comma ∷ separated (n .piece) ns
+
+abbrev pub piecesIn : List ℕ → List Further → List (List ℕ)
+piecesIn p ns = p ∷ map (λ (n : Further). n .piece) ns
+
+-- any bytes but these two
+abbrev pub NoSeparator : List ℕ → Type 0
+NoSeparator [] = Unit {0}
+NoSeparator (b ∷ p) = (b ≡ comma → ⊥) × (b ≡ semicolon → ⊥) × NoSeparator p
+
+abbrev pub NoSeparators : List (List ℕ) → Type 0
+NoSeparators [] = Unit {0}
+NoSeparators (p ∷ ps) = NoSeparator p × NoSeparators ps
+
+-- the marker stands in s from i on
+abbrev pub MarkerAt : List ℕ → ℕ → Type 0
+MarkerAt s i = take (length theMarker) (drop i s) ≡ theMarker
+
+pub record BannersRead : Type 0 where
+  -- "present if some piece equals the name": each of the pieces is, and nothing else
+  pub present : (p : List ℕ) (ns : List Further) → NoSeparators (piecesIn p ns) → (i : ℕ) → i < length (piecesIn p ns)
+      → hasFeature (theMarker ++ separated p ns) (getD (piecesIn p ns) i []) ≡ true
+  pub notPresent : (p : List ℕ) (ns : List Further) → NoSeparators (piecesIn p ns) → (name : List ℕ)
+      → ((i : ℕ) → i < length (piecesIn p ns) → getD (piecesIn p ns) i [] ≡ name → ⊥) → hasFeature (theMarker ++ separated p ns) name ≡ false
+  -- "Find the first": what stands before it does not count
+  pub first : (front rest name : List ℕ) → ((i : ℕ) → i < length front → MarkerAt (front ++ theMarker ++ rest) i → ⊥)
+      → hasFeature (front ++ theMarker ++ rest) name ≡ hasFeature (theMarker ++ rest) name
+  -- "Absent marker: no"
+  pub noMarker : (banner name : List ℕ) → ((i : ℕ) → MarkerAt banner i → ⊥) → hasFeature banner name ≡ false
+  -- the seven by their numbers
+  pub seven : (banner : List ℕ)
+      → featuresOf banner
+      ≡ map (hasFeature banner)
+      (ascii "stat_v2" ∷ ascii "ls_v2" ∷ ascii "sendrecv_v2" ∷ ascii "sendrecv_v2_brotli" ∷ ascii "sendrecv_v2_lz4" ∷ ascii "sendrecv_v2_zstd"
+      ∷ ascii "sendrecv_v2_dry_run_send" ∷ [])

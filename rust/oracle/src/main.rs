@@ -45,7 +45,7 @@ mod replay;
 const USAGE: &str = "\
 oracle lists N SEED            compare N random lists of calls
 oracle list SEED               one of them, by its own seed, printed
-oracle trials                  document 01's trial pieces, and paths with a NUL, on both sides
+oracle trials                  document 01's trial pieces, paths with a NUL and banners, on both sides
 oracle differences             the intended differences, with their bytes
 oracle record N SEED           the trial pieces and N short lists, as text to be replayed
 oracle replay FILE             such a text, replayed on this library

@@ -1,8 +1,8 @@
-//! Document 01's trial pieces, and what document 02's [6] says of paths with a NUL, each made on both sides and held to what the document
-//! says.
+//! Document 01's trial pieces, what document 02's [6] says of paths with a NUL, and banners whose pieces nearly are names, each made on both
+//! sides and held to what the documents say.
 use crate::beside::{compare, Tally};
 use crate::call::{Answer, Call, What, Why};
-use crate::intended::{silent, PATH_MOST};
+use crate::intended::{silent, NAMES, PATH_MOST};
 use crate::ours;
 use crate::plan::List;
 use crate::scripted::{shared, Op};
@@ -139,6 +139,40 @@ fn nuls(t: &mut Trials) {
     }
 }
 
+// A feature is present where a piece equals its name: names cut, longer, run together, the beginning with what is no tail, tails alone.
+fn banners(t: &mut Trials) {
+    let calls = [
+        (vec![1], Call::on(What::StatV2, "/a")),
+        (vec![2], Call::on(What::ListV2, "/a")),
+        (vec![3], Call::on(What::RecvV2Start, "/a")),
+        (vec![3, 4], flags(Call::on(What::RecvV2Start, "/a"), 1)),
+        (vec![3, 5], flags(Call::on(What::RecvV2Start, "/a"), 2)),
+        (vec![3, 6], flags(Call::on(What::RecvV2Start, "/a"), 4)),
+        (vec![3, 7], flags(Call::on(What::SendV2Start, "/a"), 0x8000_0000)),
+    ];
+    let beginning = NAMES[2];
+    let mut pieces = vec![];
+    for name in NAMES {
+        pieces.extend((0..=name.len()).map(|end| name[..end].to_string()));
+        pieces.extend(["_", "2", "5", "=", "\0"].map(|more| format!("{name}{more}")));
+        pieces.extend(NAMES.map(|other| format!("{name}{other}")));
+        let tail = name.strip_prefix(beginning).unwrap_or(name);
+        pieces.extend([tail.to_string(), format!("{tail}{beginning}"), format!("{beginning}{tail}{tail}")]);
+    }
+    for piece in pieces {
+        for banner in [format!("features={piece}"), format!("x;features=cmd,{piece};{beginning}")] {
+            let has = |n: &u32| NAMES[*n as usize - 1] == piece || (*n == 3 && banner.ends_with(&format!(";{beginning}")));
+            let made = calls.iter().map(|(_, call)| call.clone()).collect();
+            t.show(&format!("banner {banner:?}"), &list(&banner, 64, b"", made), |s| {
+                s.iter().zip(&calls).all(|(seen, (wanted, _))| match wanted.iter().find(|n| !has(n)) {
+                    Some(n) => seen.answer == Answer::Not(Why::Missing(*n)) && seen.pieces.is_empty(),
+                    None => !seen.pieces.is_empty(),
+                })
+            });
+        }
+    }
+}
+
 fn header(len: usize) -> Vec<u8> {
     [&b"DATA"[..], &(len as u32).to_le_bytes()].concat()
 }
@@ -163,6 +197,7 @@ pub fn run() -> bool {
     replies(&mut trials);
     several(&mut trials);
     nuls(&mut trials);
+    banners(&mut trials);
     data(&mut trials);
     println!("{} checks of trial pieces, {} wrong", trials.shown, trials.wrong);
     trials.wrong == 0
