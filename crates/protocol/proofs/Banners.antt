@@ -7,7 +7,7 @@ use mathlib.Mathlib.Data.Bool.Basic.{eq-false-of-not-eq-true}
 use Prim.Native.Nat.{ℕ, zero, suc, _<_}
 use native.Mathlib.Omega.{arith}
 use borrow.Author.Tests.{ne-eqb}
-use lib.ListN.{length, getD, take, drop}
+use lib.ListN.{length, getD}
 use Rattle.protocol.specs.Banners.{Row, banners, paper, Further, separated, NoSeparator, NoSeparators, theMarker, piecesIn, MarkerAt, BannersRead}
 use Rattle.protocol.specs.Bytes.{pick, same}
 use Rattle.protocol.specs.Features.{marker, restAfter, separator, split, someIs, inPieces, hasFeature, names, hasEach, featuresOf}

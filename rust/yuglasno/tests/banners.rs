@@ -1,16 +1,10 @@
 //! Which features a session takes from a banner, by what it answers to the calls that need them.
-use yuglasno::{Call, Error, FileMode, Session, Step, SyncFlags};
+use yuglasno::{Call, Error, Feature, FileMode, Session, Step, SyncFlags};
 
-/// The names of the features 1 to 7.
-const NAMES: [&str; 7] = [
-    "stat_v2",
-    "ls_v2",
-    "sendrecv_v2",
-    "sendrecv_v2_brotli",
-    "sendrecv_v2_lz4",
-    "sendrecv_v2_zstd",
-    "sendrecv_v2_dry_run_send",
-];
+/// The names of the features 1 to 7, as the crate has them.
+fn names() -> [&'static str; 7] {
+    Feature::ALL.map(Feature::name)
+}
 
 /// The feature whose lack a session of this banner answers the call with; 0 where it writes.
 fn missing(banner: &str, call: &Call) -> u32 {
@@ -43,21 +37,25 @@ fn had(banner: &str) -> Vec<u32> {
             false
         }
     };
-    (1..).zip(calls).filter(|(number, (banner, call))| present(*number, banner, call)).map(|(number, _)| number).collect()
+    (1..)
+        .zip(calls)
+        .filter(|(number, (banner, call))| present(*number, banner, call))
+        .map(|(number, _)| number)
+        .collect()
 }
 
 /// The numbers of the names that a piece equals: one or none.
 fn named(piece: &str) -> Vec<u32> {
-    (1..).zip(NAMES).filter(|(_, name)| *name == piece).map(|(number, _)| number).collect()
+    (1..).zip(names()).filter(|(_, name)| *name == piece).map(|(number, _)| number).collect()
 }
 
 #[test]
 fn told() {
-    let all = format!("features={}", NAMES.join(","));
+    let all = "features=stat_v2,ls_v2,sendrecv_v2,sendrecv_v2_brotli,sendrecv_v2_lz4,sendrecv_v2_zstd,sendrecv_v2_dry_run_send";
     let cases: [(&str, &[u32]); 12] = [
         ("features=sendrecv_v2_lz4", &[5]),
         ("features=sendrecv_v2", &[3]),
-        (&all, &[1, 2, 3, 4, 5, 6, 7]),
+        (all, &[1, 2, 3, 4, 5, 6, 7]),
         ("device::ro.product.name=x;features=cmd;sendrecv_v2_zstd,ls_v2", &[2, 6]),
         ("features=sendrecv_v2_,sendrecv_v2_lz5,sendrecv_v3_lz4,sendrecv_v2-lz4", &[]),
         ("features=_lz4,lz4,_lz4sendrecv_v2,_brotli,_zstd,_dry_run_send", &[]),
@@ -77,20 +75,25 @@ fn told() {
 /// the third name and behind every name.
 #[test]
 fn a_piece_equals_the_name() {
+    let third = Feature::SendrecvV2.name();
     let mut pieces = vec![];
-    for name in NAMES {
+    for name in names() {
         pieces.extend((0..=name.len()).map(|end| name[..end].to_string()));
         pieces.extend((0..name.len()).map(|start| name[start..].to_string()));
         pieces.extend(["_", "2", " ", "\0", "="].map(|more| format!("{name}{more}")));
         pieces.push(format!("{}5", &name[..name.len() - 1]));
-        pieces.extend(NAMES.map(|other| format!("{name}{other}")));
-        if let Some(tail) = name.strip_prefix(NAMES[2]) {
-            pieces.push(format!("{tail}{}", NAMES[2]));
-            pieces.extend(NAMES.map(|other| format!("{other}{tail}")));
+        pieces.extend(names().map(|other| format!("{name}{other}")));
+        if let Some(tail) = name.strip_prefix(third) {
+            pieces.push(format!("{tail}{third}"));
+            pieces.extend(names().map(|other| format!("{other}{tail}")));
         }
     }
     for piece in pieces {
-        for banner in [format!("features={piece}"), format!("features={piece};cmd"), format!("device::features=cmd,{piece},shell_v2")] {
+        for banner in [
+            format!("features={piece}"),
+            format!("features={piece};cmd"),
+            format!("device::features=cmd,{piece},shell_v2"),
+        ] {
             assert_eq!(had(&banner), named(&piece), "{banner}");
         }
     }
@@ -100,7 +103,7 @@ fn a_piece_equals_the_name() {
 #[test]
 fn long_banners() {
     let filler = "shell_v2,".repeat(10_000);
-    for (number, name) in (1..).zip(NAMES) {
+    for (number, name) in (1..).zip(names()) {
         assert_eq!(had(&format!("features={filler}{name}")), [number]);
         assert_eq!(had(&format!("{filler}{}features={name}", "f".repeat(70_000))), [number]);
     }
