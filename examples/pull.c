@@ -20,9 +20,9 @@
 enum { USAGE = 64, NOT_AS_SAID = 65, NO_PANEL = 69, OUTPUT = 74 };
 enum { KIND_OF_MODE = 0170000, LINK = 0120000 };
 
-/* The session's record and buffers, the slice for a reply, and the panel's pipes. */
+/* The session's settings, record and buffers, the slice for a reply, and the panel's pipes. */
 static struct {
-  uint8_t rec[YUGLASNO_RECORD], rx[YUGLASNO_CAPACITY], msg[YUGLASNO_CAPACITY], out[YUGLASNO_REPLY];
+  uint8_t settings[YUGLASNO_SETTINGS], rec[YUGLASNO_RECORD], rx[YUGLASNO_CAPACITY], msg[YUGLASNO_CAPACITY], out[YUGLASNO_REPLY];
   int from_panel, to_panel;
 } host;
 
@@ -118,6 +118,13 @@ static void check(uint32_t answer) {
   exit((int)answer);
 }
 
+/* Opens the session, under the published ids. */
+static void open_session(const char *banner) {
+  check(yuglasno_settings(host.settings, sizeof host.settings));
+  check(yuglasno_open(host.rec, sizeof host.rec, host.settings, sizeof host.settings, (const uint8_t *)banner, strlen(banner),
+                      sizeof host.rx, sizeof host.msg));
+}
+
 /* The v2 call, or the v1 call where the banner lacks its feature. */
 static uint32_t either(uint32_t v2, uint32_t v1, const char *path) {
   uint32_t answer = call(v2, path, 0, YUGLASNO_FLAG_NONE);
@@ -157,7 +164,7 @@ int main(int count, char **words) {
   signal(SIGPIPE, SIG_IGN);
   const char *banner = words[1], *path = words[2];
   pid_t panel = start_panel(words + 3);
-  check(yuglasno_open(host.rec, sizeof host.rec, (const uint8_t *)banner, strlen(banner), sizeof host.rx, sizeof host.msg));
+  open_session(banner);
   check(either(YUGLASNO_CALL_STAT_V2, YUGLASNO_CALL_STAT, path));
   struct stated stated = print_stat();
   if (!as_said(stated, pull(path))) stop(NOT_AS_SAID, "another number of bytes came than the stat said");

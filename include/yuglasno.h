@@ -1,10 +1,13 @@
-/* The five functions of libexports.a: the host's side of ADB's sync: service (stat, list, pull, push), without I/O, a heap or a clock.
+/* The seven functions of libexports.a: the host's side of ADB's sync: service (stat, list, pull, push), without I/O, a heap or a clock.
  *
  * A session lives in a record and two buffers of the host's. The host starts a call, does what the library asks (read, write, close),
  * reports what came of it, and so on until the call is answered. examples/pull.c is a whole program.
  *
  * What is lent
  *   rec     the session: YUGLASNO_RECORD bytes, written by yuglasno_open and by no one else
+ *   settings  what a session is opened with: YUGLASNO_SETTINGS bytes, written by yuglasno_settings and yuglasno_ids. A session keeps
+ *           what it was opened with: settings may change or go once yuglasno_open has returned
+ *   file    the bytes of an ids file
  *   rx      the receive buffer: 8 bytes at least; a reply that it can't hold is answered TOO_LARGE. YUGLASNO_CAPACITY takes any DATA
  *   msg     the message buffer, for the text of a FAIL: at least as long as rx
  *   lent    the path or the data of the call
@@ -16,7 +19,7 @@
  * Each function answers every input; two threads may be in the library at once, each with slices of its own.
  *
  * What is returned: two forms of number
- *   yuglasno_open   the answer's number alone: OK, SMALL_BUFFER, SHORT_MESSAGE_BUFFER, or OTHER_LENGTH for rec
+ *   yuglasno_settings, yuglasno_ids, yuglasno_open   the answer's number alone
  *   the others      what + 256 * number: yuglasno_what() says what is asked (YUGLASNO_WHAT_..), and of WHAT_TOLD yuglasno_answer() is the
  *                   answer's number (YUGLASNO_ANSWER_..). Where something is asked, number is 0 and means nothing.
  *
@@ -49,7 +52,8 @@
 extern "C" {
 #endif
 
-#define YUGLASNO_RECORD 192     /* bytes of a record */
+#define YUGLASNO_RECORD 256     /* bytes of a record */
+#define YUGLASNO_SETTINGS 128   /* bytes of settings */
 #define YUGLASNO_REPLY 112      /* bytes of a slice that takes any reply */
 #define YUGLASNO_DATA_MOST 65536 /* the most bytes in one DATA message */
 #define YUGLASNO_CAPACITY 65544 /* bytes of a receive buffer that takes every DATA message, with its header */
@@ -97,8 +101,9 @@ enum {
   YUGLASNO_FAULT_ERROR = 1   /* another fault, with a code of the host's own */
 };
 
-/* The answers. 1 to 11 change nothing: record, buffers and a pending call are as before. Where several apply, the first of 1, 2, then 3, 6, 4,
- * 5, 8, 7, 9, 10 is answered; of a report 3, 6, 5, 11. docs/ANSWERS.md says what to do. */
+/* The answers. 1 to 11, 22 and 23 change nothing: record, settings, buffers and a pending call are as before. Where several apply, the
+ * first of 1, 2, then 3, 6, 4, 5, 8, 7, 9, 10 is answered; of a report 3, 6, 5, 11. Of a table of ids it is 22, then 23, behind 1 to 3.
+ * docs/ANSWERS.md says what to do. */
 enum {
   YUGLASNO_ANSWER_OK = 0,
   YUGLASNO_ANSWER_SMALL_BUFFER = 1,         /* rx is under 8 bytes */
@@ -118,7 +123,9 @@ enum {
   YUGLASNO_ANSWER_UNEXPECTED = 15,          /* a reply under an id that does not belong there: word 3 */
   YUGLASNO_ANSWER_ERRNO = 16,               /* the panel's errno in a v2 stat: word 3 */
   YUGLASNO_ANSWER_TOO_LARGE = 17,           /* a reply that rx can't hold */
-  YUGLASNO_ANSWER_BAD_REQUEST = 18          /* of the panel's request reader, which is not exported: no function here answers it */
+  YUGLASNO_ANSWER_BAD_REQUEST = 18,         /* of the panel's request reader, which is not exported: no function here answers it */
+  YUGLASNO_ANSWER_BAD_IDS = 22,             /* a file, or the settings of an opening, is no table of ids */
+  YUGLASNO_ANSWER_EQUAL_IDS = 23            /* two ids of the table are equal */
 };
 
 /* The features of a banner, as answer MISSING numbers them. */
@@ -167,8 +174,20 @@ enum {
   YUGLASNO_AT_V2_CTIME = 13
 };
 
-/* Opens a session in rec, for buffers of these two lengths. Of the banner only "features=.." counts. */
-uint32_t yuglasno_open(uint8_t *rec, size_t rec_len, const uint8_t *banner, size_t banner_len, size_t rx, size_t msg);
+/* Makes settings the published ones: the fifteen ids of the public documents, four bytes each, in the order STAT, STA2, LIST, LIS2, SEND,
+ * SND2, RECV, RCV2, DATA, DONE, OKAY, FAIL, DENT, DNT2, QUIT, then zeros. OK, or OTHER_LENGTH. */
+uint32_t yuglasno_settings(uint8_t *settings, size_t settings_len);
+
+/* Puts the ids of a file in the place of those in settings. The file has two lines, each with byte 10 at its end: the published ids, joined
+ * by commas in that order, and what is put for each, four bytes from 33 to 126 without a comma, joined likewise. OK; or OTHER_LENGTH for
+ * settings, BAD_IDS for a file of another form, EQUAL_IDS for one with two equal values, and settings are as before. */
+uint32_t yuglasno_ids(uint8_t *settings, size_t settings_len, const uint8_t *file, size_t file_len);
+
+/* Opens a session in rec, for buffers of these two lengths, under the ids in settings. Of the banner only "features=.." counts. OK; or
+ * SMALL_BUFFER, SHORT_MESSAGE_BUFFER, OTHER_LENGTH for rec or settings, then BAD_IDS or EQUAL_IDS where settings have ids that
+ * yuglasno_ids would not have put there. */
+uint32_t yuglasno_open(uint8_t *rec, size_t rec_len, const uint8_t *settings, size_t settings_len, const uint8_t *banner, size_t banner_len,
+                       size_t rx, size_t msg);
 
 /* Starts a call. */
 uint32_t yuglasno_start(uint8_t *rec, size_t rec_len, uint8_t *rx, size_t rx_len, uint8_t *msg, size_t msg_len,
@@ -186,7 +205,7 @@ uint32_t yuglasno_wrote(uint8_t *rec, size_t rec_len, uint8_t *rx, size_t rx_len
 uint32_t yuglasno_fault(uint8_t *rec, size_t rec_len, uint8_t *rx, size_t rx_len, uint8_t *msg, size_t msg_len,
                         const uint8_t *lent, size_t lent_len, uint32_t kind, uint32_t code, uint8_t *out, size_t out_len);
 
-/* What is asked, of a number that one of the last four returned. */
+/* What is asked, of a number that one of the last four functions returned. */
 static inline uint32_t yuglasno_what(uint32_t returned) { return returned & 255; }
 
 /* The answer's number, of one whose what is YUGLASNO_WHAT_TOLD. */

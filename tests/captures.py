@@ -4,10 +4,12 @@ the reply's meaning, and whether the service went on.
 
 - What our host writes is written byte for byte as the client of the recording wrote it.
 - Every reply is read by the session as it is meant, whole and in reads of one byte.
+- Both hold of what our host writes with other ids put for the published ones, on both sides: in small letters, and in another order.
 - The request reader (the program `heard_requests`) judges every request as the service did, but for those that docs/DIFFERENCES.md names.
 
 The last line is 'N passed, M failed'."""
 import copy
+import itertools
 import pathlib
 import subprocess
 import tempfile
@@ -52,7 +54,7 @@ def driven(session, link, calls):
 def replayed(library, exchange, cut):
     """The link after the exchange's calls, what they answered, and what they should."""
     link = host.Link(exchange.said, cut)
-    told, meant = list(driven(host.Session(library, BANNER), link, exchange.reading)), exchanges.answers(exchange.meaning)
+    told, meant = list(driven(host.Session(library, BANNER, ids=exchange.ids), link, exchange.reading)), exchanges.answers(exchange.meaning)
     # behind the last reply comes the channel's end
     while len(told) > len(meant) and told[-1] == CLOSED:
         told.pop()
@@ -64,7 +66,7 @@ def read_as_meant(told, meant):
 
 
 def session(count, library, exchange, cut):
-    case = f'{exchange.label}, in reads of {cut}'
+    case = f'{exchange.label}, in reads of {cut}, ids {exchange.ids}'
     link, told, meant = replayed(library, exchange, cut)
     count.check(read_as_meant(told, meant), f'{case}: answered {told}, not {meant}')
     foreign = (exchanges.UNEXPECTED, exchanges.LST2) in told
@@ -129,8 +131,9 @@ def main():
     with tempfile.TemporaryDirectory() as folder:
         library = host.loaded(pathlib.Path(folder))
         for exchange in recorded:
-            for cut in (host.LENGTHS['CAPACITY'], 1):
-                session(count, library, exchange, cut)
+            others = [exchanges.under(table, exchange) for table in (exchanges.SMALL, exchanges.ROTATED) if exchange.calls]
+            for each, cut in itertools.product([exchange, *others], (host.LENGTHS['CAPACITY'], 1)):
+                session(count, library, each, cut)
             reader(count, exchange, table)
             if exchange.label in ('STAT-file', 'STA2-file'):
                 altered(count, library, exchange)

@@ -1,5 +1,6 @@
 """The exchanges of tests/captures.jsonl: the requests that were written as calls of our host, by the public documents and with none of the
-library's code; what the replies mean, as answers; and whether the service read, refused or missed a request."""
+library's code; what the replies mean, as answers; whether the service read, refused or missed a request; and the same under other ids."""
+import copy
 import itertools
 import json
 import re
@@ -20,7 +21,8 @@ OF_THE_END = r'command read failure|filename read failure'
 
 
 class Exchange:
-    """What was asked and said, and the data in it; the calls that ask it, where they are ours, and those that read the reply."""
+    """What was asked and said, and the data in it; the calls that ask it, where they are ours, and those that read the reply; an ids file,
+    where the ids are not the published ones."""
 
     def __init__(self, line):
         entry = json.loads(line)
@@ -31,7 +33,7 @@ class Exchange:
         self.asked, self.said = b''.join(wrote['client']), b''.join(wrote['server'])
         # the service writes a DATA's header and its data apart
         self.data = b''.join(data for header, data in itertools.pairwise(wrote['server']) if header[:4] == b'DATA' and len(header) == 8)
-        self.calls = ours(self.asked)
+        self.calls, self.ids = ours(self.asked), None
         self.reading = self.calls or list(reading(self.meaning))
 
 
@@ -131,6 +133,51 @@ def answers(meaning):
     if meaning['id'] in ('STAT', 'STA2'):
         return [(ERRNO, meaning['error'])] if meaning.get('error') else [stat_of(meaning, 'STAT', 'STAT_V2')]
     return [{'OKAY': ('DONE',), 'DONE': ('END',), 'LST2': (UNEXPECTED, LST2)}[meaning['id']]]
+
+
+# ---- other ids
+
+
+PUBLISHED = b'STAT STA2 LIST LIS2 SEND SND2 RECV RCV2 DATA DONE OKAY FAIL DENT DNT2 QUIT'.split()
+SMALL = {name: name.lower() for name in PUBLISHED}
+# each published id put for the one before it
+ROTATED = dict(zip(PUBLISHED, PUBLISHED[1:] + PUBLISHED[:1]))
+# the bytes of a reply up to what its last number counts, or of all of it
+RECORDS = {b'STAT': 16, b'STA2': 72, b'DENT': 20, b'DNT2': 76, b'DATA': 8, b'FAIL': 8, b'OKAY': 8}
+COUNTED = (b'DENT', b'DNT2', b'DATA', b'FAIL')
+
+
+def under(table, exchange):
+    """An exchange of our host's as a panel of another table would have had it."""
+    other = copy.copy(exchange)
+    other.asked, other.said = asked_under(table, exchange.asked), said_under(table, exchange.said, exchange.calls)
+    other.ids = b','.join(PUBLISHED) + b'\n' + b','.join(table[name] for name in PUBLISHED) + b'\n'
+    return other
+
+
+def asked_under(table, stream):
+    """The requests of our host, the inner id of a v2 transfer too."""
+    made = b''
+    while stream:
+        name, (n,), length = stream[:4], struct.unpack('<I', stream[4:8]), request(stream)[1]
+        inner = table[name] if name in V2 else b''
+        made += table[name] + stream[4:8 + n * bool(inner)] + inner + stream[8 + n + 4 if inner else 8:length]
+        stream = stream[length:]
+    return made
+
+
+def said_under(table, stream, calls):
+    """The replies to these calls. A listing ends with DONE as long as its entries are, all else with one of 8 bytes."""
+    ends = iter([{'LIST': 20, 'LIST_V2': 76}.get(call[0], 8) for call in calls if call[0] in ('LIST', 'LIST_V2', 'RECV', 'RECV_V2')])
+    made = b''
+    while stream:
+        name = stream[:4]
+        length = RECORDS.get(name) or (next(ends) if name == b'DONE' else len(stream))
+        if name in COUNTED:
+            length += struct.unpack('<I', stream[length - 4:length])[0]
+        made += table.get(name, name) + stream[4:length]
+        stream = stream[length:]
+    return made
 
 
 def judged(meaning):

@@ -12,7 +12,7 @@ from tables import in_definitions, in_header, in_page, in_rust
 ROOT = pathlib.Path(__file__).resolve().parent.parent
 OTHERS = {'rust': in_rust, 'definitions': in_definitions, 'page of answers': in_page}
 # the page has these alone; the others have every table of the header
-ON_PAGE = {'answers', 'order', 'order of a report'}
+ON_PAGE = {'answers', 'order', 'order of a report', 'order of a table'}
 # what a table has no name for: the crate's errors are not 0, and it reads no requests; the definitions have no buffer of that length and
 # no name for no flags, and to them a fault of any kind but 0 is an error; where a host reads an answer, a refusal is any other number, and
 # the close any other what
@@ -45,6 +45,10 @@ EDITS = [
     ('page of answers', '5, 8, 7, 9, 10 is', '5, 7, 8, 9, 10 is'),
     ('definitions', 'orElse (refuse (has 0 p) (refused 8)) (refuse (ltb (d .longest) (length p)) (refused 7))',
      'orElse (refuse (ltb (d .longest) (length p)) (refused 7)) (refuse (has 0 p) (refused 8))'),
+    ('header', 'it is 22, then 23', 'it is 23, then 22'),
+    ('page of answers', 'it is 22, then 23', 'it is 23, then 22'),
+    ('definitions', '(pick (twoEqual vs) (refused equalValues) (ids vs)) (refused badForm)',
+     '(pick (twoEqual vs) (refused badForm) (ids vs)) (refused equalValues)'),
 ]
 
 

@@ -1,4 +1,4 @@
-"""A host over the five functions in Python, by the numbers of include/yuglasno.h: calls over bytes that are given beforehand."""
+"""A host over the seven functions in Python, by the numbers of include/yuglasno.h: calls over bytes that are given beforehand."""
 import ctypes
 import os
 import pathlib
@@ -45,11 +45,17 @@ class Link:
 
 
 class Session:
-    def __init__(self, library, banner, capacity=LENGTHS['CAPACITY']):
+    """A session under the published ids, or those of an ids file."""
+
+    def __init__(self, library, banner, capacity=LENGTHS['CAPACITY'], ids=None):
         self.library, self.capacity = library, capacity
+        settings = ctypes.create_string_buffer(LENGTHS['SETTINGS'])
+        assert library.yuglasno_settings(settings, len(settings)) == ANSWER['OK']
+        assert ids is None or library.yuglasno_ids(settings, len(settings), ids, len(ids)) == ANSWER['OK']
         self.rec, self.rx, self.msg, self.out = (
             ctypes.create_string_buffer(n) for n in (LENGTHS['RECORD'], capacity, capacity, LENGTHS['REPLY']))
-        assert library.yuglasno_open(self.rec, len(self.rec), banner, len(banner), capacity, capacity) == ANSWER['OK']
+        opened = library.yuglasno_open(self.rec, len(self.rec), settings, len(settings), banner, len(banner), capacity, capacity)
+        assert opened == ANSWER['OK']
 
     def word(self, i, signed=False):
         return int.from_bytes(self.out[8 * i:8 * i + 8], 'little', signed=signed)

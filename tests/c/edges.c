@@ -1,5 +1,6 @@
 /* What yuglasno.h says, tried: NULL with length 0, slices at odd addresses, the two forms of a returned number, refusals that change
- * nothing, the reply's layout by kind, what a read still wants. Its last line is 'N passed, M failed'. Also compiled as C++. */
+ * nothing, ids from a file, the reply's layout by kind, what a read still wants. Its last line is 'N passed, M failed'. Also compiled as
+ * C++. */
 #include "yuglasno.h"
 
 #include <stdio.h>
@@ -28,13 +29,17 @@ static uint8_t *const rec = memory[0] + ODD, *const rx = memory[1] + ODD, *const
 static uint8_t written[CAPACITY];
 static size_t writes;
 
+static uint8_t set[YUGLASNO_SETTINGS + ODD], *const settings = set + ODD;
+
+#define OPEN(settings_len, rx_len, msg_len) yuglasno_open(rec, YUGLASNO_RECORD, settings, settings_len, NULL, 0, rx_len, msg_len)
 #define SESSION rec, YUGLASNO_RECORD, rx, CAPACITY, msg, CAPACITY
 #define REPLY out, YUGLASNO_REPLY
 
 static uint64_t word(size_t i) { return yuglasno_word(out, i); }
 
 static void open_session(const char *banner) {
-  uint32_t told = yuglasno_open(rec, YUGLASNO_RECORD, (const uint8_t *)banner, strlen(banner), CAPACITY, CAPACITY);
+  uint32_t told = yuglasno_open(rec, YUGLASNO_RECORD, settings, YUGLASNO_SETTINGS, (const uint8_t *)banner, strlen(banner), CAPACITY,
+                                CAPACITY);
   CHECK(told == YUGLASNO_ANSWER_OK);
 }
 
@@ -80,11 +85,52 @@ static uint32_t call(uint32_t number, const char *path, const char *reply, size_
 #define HEARD(number, path, reply, cut) call(number, path, reply, sizeof(reply) - 1, cut)
 
 static void opening(void) {
-  CHECK(yuglasno_open(NULL, 0, NULL, 0, CAPACITY, CAPACITY) == YUGLASNO_ANSWER_OTHER_LENGTH);
-  CHECK(yuglasno_open(rec, YUGLASNO_RECORD, NULL, 0, 7, 8) == YUGLASNO_ANSWER_SMALL_BUFFER);
-  CHECK(yuglasno_open(rec, YUGLASNO_RECORD, NULL, 0, 9, 8) == YUGLASNO_ANSWER_SHORT_MESSAGE_BUFFER);
-  CHECK(yuglasno_open(rec, YUGLASNO_RECORD - 1, NULL, 0, 8, 8) == YUGLASNO_ANSWER_OTHER_LENGTH);
-  CHECK(yuglasno_open(rec, YUGLASNO_RECORD, NULL, 0, CAPACITY, CAPACITY) == YUGLASNO_ANSWER_OK);
+  CHECK(yuglasno_settings(settings, YUGLASNO_SETTINGS) == YUGLASNO_ANSWER_OK);
+  CHECK(yuglasno_open(NULL, 0, settings, YUGLASNO_SETTINGS, NULL, 0, CAPACITY, CAPACITY) == YUGLASNO_ANSWER_OTHER_LENGTH);
+  CHECK(yuglasno_open(rec, YUGLASNO_RECORD, NULL, 0, NULL, 0, CAPACITY, CAPACITY) == YUGLASNO_ANSWER_OTHER_LENGTH);
+  CHECK(OPEN(YUGLASNO_SETTINGS, 7, 8) == YUGLASNO_ANSWER_SMALL_BUFFER);
+  CHECK(OPEN(YUGLASNO_SETTINGS, 9, 8) == YUGLASNO_ANSWER_SHORT_MESSAGE_BUFFER);
+  CHECK(OPEN(YUGLASNO_SETTINGS - 1, 7, 8) == YUGLASNO_ANSWER_SMALL_BUFFER);
+  CHECK(OPEN(YUGLASNO_SETTINGS - 1, 8, 8) == YUGLASNO_ANSWER_OTHER_LENGTH);
+  CHECK(yuglasno_open(rec, YUGLASNO_RECORD - 1, settings, YUGLASNO_SETTINGS, NULL, 0, 8, 8) == YUGLASNO_ANSWER_OTHER_LENGTH);
+  CHECK(OPEN(YUGLASNO_SETTINGS, CAPACITY, CAPACITY) == YUGLASNO_ANSWER_OK);
+}
+
+#define PUBLISHED "STAT,STA2,LIST,LIS2,SEND,SND2,RECV,RCV2,DATA,DONE,OKAY,FAIL,DENT,DNT2,QUIT\n"
+#define SMALL(dnt2, quit) "stat,sta2,list,lis2,send,snd2,recv,rcv2,data,done,okay,fail,dent," dnt2 "," quit "\n"
+
+static uint32_t load(const char *file, size_t length) { return yuglasno_ids(settings, YUGLASNO_SETTINGS, (const uint8_t *)file, length); }
+
+#define LOAD(file) load(file, sizeof(file) - 1)
+
+/* Ids from a file: what is refused leaves the settings as they were, and a session keeps what it was opened with. */
+static void ids(void) {
+  uint8_t kept[YUGLASNO_SETTINGS];
+  CHECK(yuglasno_settings(NULL, 0) == YUGLASNO_ANSWER_OTHER_LENGTH);
+  CHECK(yuglasno_settings(settings, YUGLASNO_SETTINGS - 1) == YUGLASNO_ANSWER_OTHER_LENGTH);
+  CHECK(memcmp(settings, "STATSTA2LISTLIS2SENDSND2RECVRCV2DATADONEOKAYFAILDENTDNT2QUIT\0", 61) == 0);
+  CHECK(LOAD(PUBLISHED SMALL("dnt2", "quit")) == YUGLASNO_ANSWER_OK && memcmp(settings, "statsta2", 8) == 0);
+  memcpy(kept, settings, sizeof kept);
+  CHECK(yuglasno_ids(NULL, 0, NULL, 0) == YUGLASNO_ANSWER_OTHER_LENGTH && load(NULL, 0) == YUGLASNO_ANSWER_BAD_IDS);
+  CHECK(load(PUBLISHED PUBLISHED, 149) == YUGLASNO_ANSWER_BAD_IDS);
+  CHECK(LOAD(PUBLISHED SMALL("dn 2", "stat")) == YUGLASNO_ANSWER_BAD_IDS);
+  CHECK(LOAD(PUBLISHED SMALL("dnt2", "stat")) == YUGLASNO_ANSWER_EQUAL_IDS);
+  CHECK(memcmp(settings, kept, sizeof kept) == 0);
+  open_session("");
+  CHECK(LOAD(PUBLISHED PUBLISHED) == YUGLASNO_ANSWER_OK && memcmp(settings, "STATSTA2", 8) == 0);
+  CHECK(HEARD(YUGLASNO_CALL_STAT, PATH, "stat\244\201\0\0\316\007\0\0\005\0\0\0", 1) == YUGLASNO_ANSWER_OK);
+  CHECK(writes == 10 && memcmp(written, "stat\2\0\0\0" PATH, 10) == 0);
+  CHECK(HEARD(YUGLASNO_CALL_STAT, PATH, "STAT\0\0\0\0", 1) == YUGLASNO_ANSWER_UNEXPECTED && word(YUGLASNO_AT_NUMBER) == 0x54415453);
+}
+
+/* Settings that no file could have brought about. */
+static void bad_settings(void) {
+  memcpy(settings + 56, "STAT", 4);
+  CHECK(OPEN(YUGLASNO_SETTINGS, 8, 8) == YUGLASNO_ANSWER_EQUAL_IDS);
+  CHECK(OPEN(YUGLASNO_SETTINGS, 9, 8) == YUGLASNO_ANSWER_SHORT_MESSAGE_BUFFER);
+  settings[59] = 32;
+  CHECK(OPEN(YUGLASNO_SETTINGS, 8, 8) == YUGLASNO_ANSWER_BAD_IDS && OPEN(YUGLASNO_SETTINGS - 1, 8, 8) == YUGLASNO_ANSWER_OTHER_LENGTH);
+  CHECK(yuglasno_settings(settings, YUGLASNO_SETTINGS) == YUGLASNO_ANSWER_OK && OPEN(YUGLASNO_SETTINGS, 8, 8) == YUGLASNO_ANSWER_OK);
 }
 
 /* A refusal, which leaves record and buffers as they were. */
@@ -214,6 +260,8 @@ static void quitting(void) {
 
 int main(void) {
   opening();
+  ids();
+  bad_settings();
   refusals();
   pending();
   moved();

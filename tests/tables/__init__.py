@@ -19,15 +19,16 @@ def found(pattern, text):
 
 
 def order(text):
-    """The order of the answers as it is written for readers: each number by its place, of a call and of a report."""
+    """The order of the answers as it is written for readers: each number by its place, of a call, of a report and of a table of ids."""
     plain = re.sub(r'\s+(?:\*|///)?\s*', ' ', text)
     said = re.search(r'the first of ([\d, ]+), then ([\d, ]+) is answered; of a report ([\d, ]+\d)', plain)
-    return placed(said[1].split(', ') + said[2].split(', '), said[3].split(', ')) if said else {}
+    of_a_table = re.search(r'Of a table(?: of ids)? it is (\d+), then (\d+), behind', plain)
+    return placed(said[1].split(', ') + said[2].split(', '), said[3].split(', '), of_a_table.groups()) if said and of_a_table else {}
 
 
-def placed(of_a_call, of_a_report):
-    """Each number by its place, in both orders."""
-    orders = {'order': of_a_call, 'order of a report': of_a_report}
+def placed(of_a_call, of_a_report, of_a_table):
+    """Each number by its place, in each order."""
+    orders = {'order': of_a_call, 'order of a report': of_a_report, 'order of a table': of_a_table}
     return {name: {f'{int(n)}': i for i, n in enumerate(numbers, 1)} for name, numbers in orders.items()}
 
 

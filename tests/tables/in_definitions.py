@@ -14,9 +14,10 @@ OPENING, REPORTS, HOST = specs('session', 'Calls Reports Host')
 RECORD, FIELDS = specs('record', 'Record Fields')
 READER = 'crates/request_reader/specs/Meaning.antt'
 MISUSE, = specs('boundary_misuse', 'Misuse')
+IDS_FILE, SETTINGS = specs('id_table', 'IdsFile Settings')
 EXPORTS = 'crates/exports/src/lib.rt'
 SOURCES = [TOLD, CROSSING, BOUNDARY, HEARD, ANSWERS, REFUSAL, IDS, MESSAGES, FEATURES, FLAGS, OPENING, REPORTS, HOST, RECORD, FIELDS, READER]
-SOURCES += [EXPORTS, MISUSE]
+SOURCES += [EXPORTS, MISUSE, IDS_FILE, SETTINGS]
 
 # the definitions' words for the calls, and for some answers and kinds
 CALLED = {
@@ -39,6 +40,8 @@ REFUSALS = {
     'NUL_IN_PATH': (REFUSAL, r'refuse \(has 0 p\) \(refused (\d+)\)'),
     'FLAGS': (REFUSAL, r'refuse \(refusedFlags pull f\) \(refused (\d+)\)'),
     'COUNT': (REPORTS, r'pick \(ltb \(s \.ses \.capacity - s \.ses \.buf \.tail\) k\) \(refusedOut s (\d+)\)'),
+    'BAD_IDS': (IDS_FILE, r'badForm = (\d+)'),
+    'EQUAL_IDS': (IDS_FILE, r'equalValues = (\d+)'),
     'BAD_REQUEST': (READER, r'number R\.Refused = (\d+)'),
 }
 
@@ -135,21 +138,25 @@ def read(heard):
     }
 
 
-def order(misuse, refusal, answers):
-    """The numbers in the order of their tests: of the opening, of a call (then of its number, its path, its flags, its features), of a report."""
+def order(misuse, refusal, answers, ids_file):
+    """The numbers in the order of their tests: of the opening, of a call (then of its number, its path, its flags, its features), of a
+    report, of a table of ids."""
     def refused(text, start):
         return re.findall(r'\(refused (\d+)\)', section(text, start, '\n\n'))
-    opening = refused(misuse, 'openRefused rec rx msg =')[:2]
+    opening = refused(misuse, 'openRefused rec settings rx msg =')[:2]
     call, report = (re.findall(r'\(refused (\d+)\)', part) for part in section(misuse, 'refusedAt s e (start', '\n\n').split('refusedAt s e (report'))
     of_request = refused(misuse, 'numbered s none =') + refused(refusal, 'pathRefusal d p =') + refused(refusal, 'flagRefusal pull f =')
-    return placed(opening + call + of_request + re.findall(r'\nnumber \(missing \w+\) = (\d+)', answers), report)
+    tests = re.search(r'areValues vs\) \(pick \(twoEqual vs\) \(refused (\w+)\) \(ids vs\)\) \(refused (\w+)\)', ids_file)
+    table = [re.search(rf'\n{name} = (\d+)', ids_file)[1] for name in reversed(tests.groups())] if tests else []
+    return placed(opening + call + of_request + re.findall(r'\nnumber \(missing \w+\) = (\d+)', answers), report, table)
 
 
 def tables(texts):
     listed = features(texts[FEATURES])
     told = texts[TOLD].replace('= 256 * answerNumber a', '= 0')
     limits = {'RECORD': (RECORD, 'size'), 'REPLY': (TOLD, 'outSize'), 'DATA_MOST': (MESSAGES, 'dataMost'), 'PATH_MOST': (IDS, 'longest')}
-    return read(texts[HEARD]) | order(texts[MISUSE], texts[REFUSAL], texts[ANSWERS]) | {
+    limits['SETTINGS'] = SETTINGS, 'settingsSize'
+    return read(texts[HEARD]) | order(texts[MISUSE], texts[REFUSAL], texts[ANSWERS], texts[IDS_FILE]) | {
         'lengths': {name: int(m[1]) for name, (path, word) in limits.items() if (m := re.search(rf'{word} = (\d+)', texts[path]))},
         'calls': calls(texts[BOUNDARY]),
         'calls, at the start': numbered(texts[CROSSING]),

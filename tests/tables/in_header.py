@@ -25,7 +25,7 @@ def functions(text):
 def tables(texts):
     text = texts[SOURCES[0]]
     made = {name: found(rf'YUGLASNO_{group}_(?P<name>\w+)(?: =)? (?P<number>0x\w+?|\d+)(?=u?\b)', text) for name, group in GROUPS.items()}
-    made['lengths'] = found(r'#define YUGLASNO_(?P<name>RECORD|REPLY|DATA_MOST|CAPACITY|PATH_MOST) (?P<number>\d+)', text)
+    made['lengths'] = found(r'#define YUGLASNO_(?P<name>RECORD|SETTINGS|REPLY|DATA_MOST|CAPACITY|PATH_MOST) (?P<number>\d+)', text)
     made['record'] = found(r'(?P<name>until|tail) = yuglasno_word\(rec, (?P<number>\d+)\)', text)
     made['uses'] = dict(uses(text))
     made['functions'] = dict(functions(text))

@@ -55,7 +55,7 @@ def functions(text):
 
 
 def tables(texts):
-    lengths = found(r'pub const (?P<name>RECORD|REPLY): usize = (?P<number>\d+);', texts[RAW])
+    lengths = found(r'pub const (?P<name>RECORD|SETTINGS|REPLY): usize = (?P<number>\d+);', texts[RAW])
     lengths |= found(r'pub const (?P<name>PATH_MOST|DATA_MOST): usize = (?P<number>[\d_]+);', texts[LIB])
     header = re.search(r'pub const CAPACITY: usize = (\d+) \+ DATA_MOST;', texts[LIB])
     return order(texts[ERROR]) | {

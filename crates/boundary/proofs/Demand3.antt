@@ -9,8 +9,14 @@ use borrow.Author.Tests.{eq-eqb}
 use lib.ListN.{length}
 use Rattle.protocol.specs.Bytes.{Bytes}
 use Rattle.protocol.specs.Calls.{Call}
+use Rattle.protocol.specs.Ids.{Id, Table, Legal, STAT, STA2, LIST, LIS2, SEND, SND2, RECV, RCV2, DATA, DONE, OKAY, FAIL, DENT, DNT2, QUIT}
+use Rattle.ids.specs.Ids.{paired, idsOf}
+use Rattle.ids.proofs.Laws.{small}
+use Rattle.id_table.specs.Settings.{settingsOf}
+use Rattle.id_table.proofs.Laws.{id-tables}
 use Rattle.record.specs.Record.{stored, size}
-use Rattle.session.specs.Demand3.{AllWide, reader, Claim}
+use Rattle.record.specs.Narrow.{NarrowIds}
+use Rattle.session.specs.Demand3.{Opening, AllWide, reader, Claim}
 use Rattle.session.specs.EveryHost.{CodedHost, EveryHost}
 use Rattle.session.specs.Faithful.{Faithful}
 use Rattle.session.specs.Host.{World, Host, atStart, logOf}
@@ -21,37 +27,55 @@ use Rattle.boundary.specs.Crossing.{crossOpen}
 use Rattle.boundary.proofs.Logs.{log-same}
 use Rattle.boundary.proofs.Steps.{Inv}
 
+-- the numbers of a table have 64 bits
+pub ids-narrow : (t : Table) → Legal t → NarrowIds (idsOf t)
+ids-narrow t legal =
+    record {
+      stat = pair STAT STA2;
+      list = pair LIST LIS2;
+      send = pair SEND SND2;
+      recv = pair RECV RCV2;
+      «data» = pair DATA DONE;
+      okay = pair OKAY FAIL;
+      dent = pair DENT DNT2;
+      quit = omega (arith, small t legal QUIT);
+    }
+  where
+    pair : (i j : Id) → paired t i j < 2 ^ 64
+    pair i j = omega (arith, small t legal i, small t legal j)
+
 -- a record of the right length, and buffers that opening takes
-module _ (banner rec rx msg : List ℕ) (placed : length rec ≡ size) (least : 8 ≤ length rx) (room : length rx ≤ length msg) (wide : length msg < 2 ^ 63) where
+module _ (opening : Opening) (rec rx msg : List ℕ) (placed : length rec ≡ size) (least : 8 ≤ length rx) (room : length rx ≤ length msg) (wide : length msg < 2 ^ 63) where
   abbrev start : St
-  start = begins banner rx msg least room
+  start = begins opening rx msg least room
 
   inv-start : Inv start
   inv-start =
       record {
-        good = begins-good banner rx msg least room;
+        good = begins-good opening rx msg least room;
         wide = wide;
         lent = omega arith;
+        ids = ids-narrow (opening .table) (opening .legal);
         pending = tt;
-        bytes = subst Bytes (sym (begins-empty banner rx msg least room)) (λ i. omega arith);
+        bytes = subst Bytes (sym (begins-empty opening rx msg least room)) (λ i. omega arith);
       }
 
   -- opening answers 0, and stores a fresh session
-  opened : crossOpen rec banner (length rx) (length msg) ≡ record { rec = stored (start .ses); number = 0 }
+  opened : crossOpen rec (settingsOf (opening .table)) (opening .banner) (length rx) (length msg) ≡ record { rec = stored (start .ses); number = 0 }
   unfolding crossOpen
-  opened = rw (opens banner rx msg least room, eq-eqb (length rec) size placed)
+  opened = rw (opens opening rx msg least room, eq-eqb (length rec) size placed, id-tables .opens (opening .table) (opening .legal))
 
   -- the log from there is the core's
   exported-faithful : (h : Host) → CodedHost h → ((w : World) → boundary .lends (h .spare w)) → (qs : List Call) → AllWide qs → (incoming : List ℕ) → Bytes incoming
-      → (crossOpen rec banner (length rx) (length msg) .number ≡ 0)
-      × Faithful (reader banner (length rx) (h .close)) (h .end) qs incoming
-      (logOf exported h qs (atStart incoming) (crossOpen rec banner (length rx) (length msg) .rec) rx msg)
+      → (crossOpen rec (settingsOf (opening .table)) (opening .banner) (length rx) (length msg) .number ≡ 0)
+      × Faithful (reader opening (length rx) (h .close)) (h .end) qs incoming
+      (logOf exported h qs (atStart incoming) (crossOpen rec (settingsOf (opening .table)) (opening .banner) (length rx) (length msg) .rec) rx msg)
   exported-faithful h z lends qs v incoming b =
-      rw opened (refl, rw (log-same h z lends qs (atStart incoming) start inv-start b v) (begins-faithful banner rx msg least room h qs incoming))
+      rw opened (refl, rw (log-same h z lends qs (atStart incoming) start inv-start b v) (begins-faithful opening rx msg least room h qs incoming))
 
 -- Any host, also one whose reads, writes and close come to faults: each call of the log is the plain reader's.
 pub every-host : EveryHost boundary
-every-host banner rec rx msg placed least room wide = exported-faithful banner rec rx msg placed least room wide
+every-host opening rec rx msg placed least room wide = exported-faithful opening rec rx msg placed least room wide
 
 pub demand-3 : Claim boundary
 demand-3 = claimed boundary every-host

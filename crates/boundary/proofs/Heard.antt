@@ -13,12 +13,9 @@ use lib.ListN.{length, getD, take, drop, length-append}
 use lib.Seq.{take-append-seam}
 use Rattle.protocol.specs.Answers as P
 use Rattle.protocol.specs.Bytes.{Bytes, bytesOf, numberAt, over, put}
-use Rattle.protocol.specs.Ids.{letters}
 use Rattle.protocol.specs.Messages.{word}
 use Rattle.protocol.proofs.Bytes.{bytesOf-le, length-bytesOf, put-in}
 use Rattle.protocol.proofs.Decimal.{decimal-length}
-use Rattle.protocol.proofs.Ids.{published-sound}
-use Rattle.format_id.specs.Ids.{idOf}
 use Rattle.format_record.specs.Told.{toldStat, toldStat2}
 use Rattle.format_record.specs.declared.StatV1.{StatV1}
 use Rattle.format_record.specs.declared.StatV2.{StatV2}
@@ -47,11 +44,11 @@ number-front k off a rest h = sym (number-in (length a) k off (a ++ rest) (le-le
 
 -- a piece that is passed by value is short
 pub piece-short : (p : Piece) → NarrowPiece 0 p → length (byValue p) ≤ 10
-piece-short (P′.Header id arg) n = omega (arith, length-append (letters (idOf id)) (word arg), published-sound .four (idOf id), length-bytesOf 4 arg)
+piece-short (P′.Header id arg) n = omega (arith, length-append (word id) (word arg), length-bytesOf 4 id, length-bytesOf 4 arg)
 piece-short P′.Lent n = omega arith
 piece-short P′.Comma n = omega arith
 piece-short (P′.Digits m) n = decimal-length (m .0) n
-piece-short (P′.Inner id) n = omega (arith, published-sound .four (idOf id))
+piece-short (P′.Inner id) n = omega (arith, length-bytesOf 4 id)
 piece-short (P′.Word x) n = omega (arith, length-bytesOf 4 x)
 piece-short P′.End n = omega arith
 

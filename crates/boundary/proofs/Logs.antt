@@ -98,6 +98,7 @@ module _ (s : St) (x : Inv s) (i : ℕ) (at-tail : i ≡ s .ses .buf .tail) (v j
         good = good-at s (s .ses .buf) (laid .rx) (s .msg) (s .ses .pending) g (g .order) (g .inside) (over-length (s .rx) i (v ++ junk) within) refl;
         wide = x .wide;
         lent = x .lent;
+        ids = x .ids;
         pending = x .pending;
         bytes = rw at-tail (subst Bytes (sym (window-keeps (s .rx) (s .ses .buf) (sound-of s g) (v ++ junk) (rw at-tail at within))) (x .bytes));
       }

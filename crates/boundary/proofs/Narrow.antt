@@ -11,7 +11,7 @@ use lib.Dec.{eqb, leb}
 use lib.ListN.{length, take, drop}
 use lib.Seq.{take-take}
 use Rattle.protocol.specs.Bytes.{Bytes, pick, numberAt, signed, same}
-use Rattle.protocol.specs.Ids.{letters, STAT, STA2, DATA, DONE, OKAY, FAIL, DENT, DNT2}
+use Rattle.protocol.specs.Ids.{Dialect, STAT, STA2, DATA, DONE, OKAY, FAIL, DENT, DNT2}
 use Rattle.protocol.specs.Records.{idAt, argAt, statAt, dentAt, stat2Body, stat2At, dent2At}
 use Rattle.protocol.proofs.Bodies.{pick-cases}
 use Rattle.protocol.proofs.Bytes.{bytes-drop}
@@ -150,7 +150,7 @@ pub record Fit (c : ℕ) (p : Phase) (t : Turn) : Type 0 where
   pub keeps : t .keeps ≤ wants c p
   pub then : NarrowThen c (t .then)
 
-module _ (c : ℕ) where
+module _ (δ : Dialect) (c : ℕ) where
   stops : {p : Phase} {n : ℕ} {a : Answer} → n ≤ wants c p → Given c a → Fit c p (stopping n a)
   stops l h = record { drops = l; keeps = omega arith; then = h }
 
@@ -166,19 +166,19 @@ module _ (c : ℕ) where
     unfolding wants
     strange-fit = stops (omega arith) ((b 0, b 1, b 2, b 3), refl)
 
-    proceed-fit : (w : Want) → Fit c (Header w) (proceed w id arg)
+    proceed-fit : (w : Want) → Fit c (Header w) (proceed δ w id arg)
     unfolding wants
-    proceed-fit (W.Stat V1) = id-fit (same id (letters STAT)) (goes (omega arith) tt) strange-fit
-    proceed-fit (W.Stat V2) = id-fit (same id (letters STA2)) (goes (omega arith) tt) strange-fit
-    proceed-fit (W.Entry V1) = id-fit (same id (letters DENT)) (goes (omega arith) tt) (id-fit (same id (letters DONE)) (goes (omega arith) tt) strange-fit)
-    proceed-fit (W.Entry V2) = id-fit (same id (letters DNT2)) (goes (omega arith) tt) (id-fit (same id (letters DONE)) (goes (omega arith) tt) strange-fit)
-    proceed-fit W.Chunk = id-fit (same id (letters DATA)) (goes (omega arith) h) (id-fit (same id (letters DONE)) (stops (omega arith) (tt, refl)) strange-fit)
-    proceed-fit W.Okay = id-fit (same id (letters OKAY)) (stops (omega arith) (tt, refl)) strange-fit
+    proceed-fit (W.Stat V1) = id-fit (same id (δ .bytes STAT)) (goes (omega arith) tt) strange-fit
+    proceed-fit (W.Stat V2) = id-fit (same id (δ .bytes STA2)) (goes (omega arith) tt) strange-fit
+    proceed-fit (W.Entry V1) = id-fit (same id (δ .bytes DENT)) (goes (omega arith) tt) (id-fit (same id (δ .bytes DONE)) (goes (omega arith) tt) strange-fit)
+    proceed-fit (W.Entry V2) = id-fit (same id (δ .bytes DNT2)) (goes (omega arith) tt) (id-fit (same id (δ .bytes DONE)) (goes (omega arith) tt) strange-fit)
+    proceed-fit W.Chunk = id-fit (same id (δ .bytes DATA)) (goes (omega arith) h) (id-fit (same id (δ .bytes DONE)) (stops (omega arith) (tt, refl)) strange-fit)
+    proceed-fit W.Okay = id-fit (same id (δ .bytes OKAY)) (stops (omega arith) (tt, refl)) strange-fit
     proceed-fit W.Nothing = stops (omega arith) (tt, refl)
 
-    headed-fit : (w : Want) → Fit c (Header w) (headed w id arg)
+    headed-fit : (w : Want) → Fit c (Header w) (headed δ w id arg)
     unfolding wants headed
-    headed-fit w = id-fit (same id (letters FAIL)) (goes (omega arith) h) (proceed-fit w)
+    headed-fit w = id-fit (same id (δ .bytes FAIL)) (goes (omega arith) h) (proceed-fit w)
 
   -- a FAIL text
   drained-fit : {p : Phase} (d k left text : ℕ) → d ≤ wants c p → k ≤ wants c p → U64 left → text ≤ c → Fit c p (drained d k left text)
@@ -188,7 +188,7 @@ module _ (c : ℕ) where
 
   -- the turn of each phase, where the bytes that it wants lie from i on
   module _ (rx : List ℕ) (i : ℕ) (same-length : length rx ≡ c) (narrow : c < 2 ^ 63) where
-    pub turn-fit : (p : Phase) → NarrowPhase c p → i + wants c p ≤ length rx → Bytes (take (wants c p) (drop i rx)) → Fit c p (turnAt c p rx i)
+    pub turn-fit : (p : Phase) → NarrowPhase c p → i + wants c p ≤ length rx → Bytes (take (wants c p) (drop i rx)) → Fit c p (turnAt δ c p rx i)
     unfolding wants turnAt dentAt dent2At
     turn-fit (Header w) n l b =
         let y : List ℕ = drop i rx in

@@ -146,7 +146,7 @@ starts-first q = go (isData q)
     go false = refl
 
 inv-begun : (s : St) (n : ℕ) → Inv s → U64 n → Inv (st (begun (s .ses) n) (s .rx) (s .msg))
-inv-begun s n x h = record { good = omega (arith, x .good); wide = x .wide; lent = h; pending = x .pending; bytes = x .bytes }
+inv-begun s n x h = record { good = omega (arith, x .good); wide = x .wide; lent = h; ids = x .ids; pending = x .pending; bytes = x .bytes }
 
 or-fine : {r : Option P.Answer} (s : St) (o : Out) → NarrowRefusal r → Inv s → Fine (s .ses) o → Fine (s .ses) (orRefuse r s o)
 or-fine s o lets x f = f
@@ -220,7 +220,7 @@ module _ (s : St) (x : Inv s) where
     came = st (at (s .ses) (cursor (s .ses .buf .head) (s .ses .buf .tail + k)) Idle) (s .rx) (s .msg)
 
     inv-came : k ≤ s .ses .capacity - s .ses .buf .tail → Inv came
-    inv-came h = record { good = omega (arith, x .good); wide = x .wide; lent = x .lent; pending = tt; bytes = more }
+    inv-came h = record { good = omega (arith, x .good); wide = x .wide; lent = x .lent; ids = x .ids; pending = tt; bytes = more }
 
     pub read-in-goes : (p : Phase) (until : ℕ) (lost : Bool) → NarrowPhase (s .ses .capacity) p → U64 until
         → (eqb k 0 || ltb (s .ses .capacity - s .ses .buf .tail) k) ≡ false → Goes (frameOf (s .ses)) (readIn s p until lost k)
@@ -257,7 +257,7 @@ module _ (s : St) (x : Inv s) where
   closed-goes failed code a n g =
       let z : Given (s .ses .capacity) (pick failed (A.Error code) a) = pick-cases (Given (s .ses .capacity)) failed (λ e. (n, refl)) (λ e. g) in
       record {
-        inv = record { good = omega (arith, x .good); wide = x .wide; lent = x .lent; pending = tt; bytes = x .bytes };
+        inv = record { good = omega (arith, x .good); wide = x .wide; lent = x .lent; ids = x .ids; pending = tt; bytes = x .bytes };
         reply = z .0;
         given = z .1;
         frame = refl;

@@ -12,7 +12,6 @@ use lib.Dec.{eqb, ltb, leb}
 use lib.ListN.{length, getD, take, drop, length-take, length-drop}
 use Rattle.protocol.specs.Answers as Paper
 use Rattle.protocol.specs.Bytes.{Bytes, pick, over, put}
-use Rattle.protocol.specs.Ids.{published}
 use Rattle.protocol.specs.Messages.{bytesOfRequest, dataMost}
 use Rattle.protocol.proofs.Bodies.{pick-cases}
 use Rattle.protocol.proofs.Bytes.{bytes-drop, over-length, put-in}
@@ -21,7 +20,7 @@ use Rattle.request_piece.specs.Pieces.{pieceList, pieceOf}
 use Rattle.request_piece.specs.declared.Piece.{Piece}
 use Rattle.request_piece.specs.declared.Piece.the-variants as P
 use Rattle.record.specs.Fields.{startsIn}
-use Rattle.record.specs.Narrow.{U32, U64, NarrowPhase, NarrowRequest, NarrowPending, Narrow}
+use Rattle.record.specs.Narrow.{U32, U64, NarrowPhase, NarrowRequest, NarrowPending, Narrow, NarrowIds}
 use Rattle.recv_buf.specs.RecvBuf.{heldCount}
 use Rattle.recv_buf.proofs.Laws.{window-keeps}
 use Rattle.request.specs.Meaning.{meant}
@@ -44,9 +43,9 @@ use Rattle.session.specs.Core.{showOf}
 use Rattle.session.specs.Host.{Show, read, writeRx, writeLent, writeBytes, close}
 use Rattle.session.specs.Host as H
 use Rattle.session.specs.Phases.{wants}
-use Rattle.session.specs.State.{St, st, Out, out, half, beside, stepped, at, Good}
+use Rattle.session.specs.State.{dialectIn, St, st, Out, out, half, beside, stepped, at, Good}
 use Rattle.session.specs.Steps.{reading, asked, onHop, turned, followed, turnOf, hopped, pumped}
-use Rattle.session.specs.Sends.{tidied, isData, carried, pieceReply, sendPiece, messageOut, sent, told, closingOut, resumed, isEnd, wroteOn}
+use Rattle.session.specs.Sends.{idFor, tidied, isData, carried, pieceReply, sendPiece, messageOut, sent, told, closingOut, resumed, isEnd, wroteOn}
 use Rattle.session.proofs.Buf.{sound-of, good-at, good-tidied, held-tidied, held-dropped, kept-length, view}
 use Rattle.session.proofs.Turns.{held, Frame, frameOf}
 use Rattle.session.proofs.Writes.{Sent, pieces-sent}
@@ -60,12 +59,13 @@ pub record Inv (s : St) : Type 0 where
   pub good : Good s
   pub wide : s .ses .message < 2 ^ 63
   pub lent : U64 (s .ses .lent)
+  pub ids : NarrowIds (s .ses .ids)
   pub pending : NarrowPending (s .ses .capacity) (s .ses .pending)
   pub bytes : Bytes (held s)
 
 pub narrow-of : (s : St) → Inv s → Narrow (s .ses)
 narrow-of s x =
-    record { capacity = omega (arith, x .good); message = omega arith; head = omega (arith, x .good); tail = omega (arith, x .good); lent = x .lent; pending = x .pending }
+    record { capacity = omega (arith, x .good); message = omega arith; head = omega (arith, x .good); tail = omega (arith, x .good); lent = x .lent; ids = x .ids; pending = x .pending }
 
 -- What is pending is what was asked; a read is asked at t, for w bytes.
 pub data Awaits (t w : ℕ) : Pending → Show → Type 0 where
@@ -125,11 +125,11 @@ fine {o = o} s₀ g =
     }
 
 pub inv-pending : (s : St) (p : Pending) → Inv s → NarrowPending (s .ses .capacity) p → Inv (st (at (s .ses) (s .ses .buf) p) (s .rx) (s .msg))
-inv-pending s p x n = record { good = omega (arith, x .good); wide = x .wide; lent = x .lent; pending = n; bytes = x .bytes }
+inv-pending s p x n = record { good = omega (arith, x .good); wide = x .wide; lent = x .lent; ids = x .ids; pending = n; bytes = x .bytes }
 
 pub inv-tidied : (s : St) → Inv s → Inv (tidied s)
 inv-tidied s x =
-    record { good = good-tidied s (x .good); wide = x .wide; lent = x .lent; pending = tt; bytes = subst Bytes (sym (held-tidied s (x .good))) (x .bytes) }
+    record { good = good-tidied s (x .good); wide = x .wide; lent = x .lent; ids = x .ids; pending = tt; bytes = subst Bytes (sym (held-tidied s (x .good))) (x .bytes) }
 
 -- ---- the pieces of a message
 
@@ -144,23 +144,23 @@ rest-narrow n l h = pick-cases (AllNarrow n) (eqb n 0) (λ e. h) (λ e. let f = 
 none-narrow : (n : ℕ) → AllNarrow n (pick (eqb n 0) [] [])
 none-narrow n = pick-cases (AllNarrow n) (eqb n 0) (λ e. tt) (λ e. tt)
 
-pieces-narrow : (q : Request) → NarrowRequest q → (n : ℕ) → AllNarrow n (pieceList q n)
+pieces-narrow : (i : ℕ) (q : Request) → NarrowRequest q → (n : ℕ) → AllNarrow n (pieceList i q n)
 unfolding pieceList
-pieces-narrow Q.Stat r n = (tt, rest-narrow n [] tt)
-pieces-narrow Q.Sta2 r n = (tt, rest-narrow n [] tt)
-pieces-narrow Q.List r n = (tt, rest-narrow n [] tt)
-pieces-narrow Q.Lis2 r n = (tt, rest-narrow n [] tt)
-pieces-narrow Q.Recv r n = (tt, rest-narrow n [] tt)
-pieces-narrow (Q.Rcv2 f) r n = (tt, rest-narrow n _ (tt, (tt, tt)))
-pieces-narrow (Q.Send m) r n = (tt, rest-narrow n _ (tt, (r, tt)))
-pieces-narrow (Q.Snd2 m f) r n = (tt, rest-narrow n _ (tt, (tt, (tt, tt))))
-pieces-narrow Q.Data r n = (tt, rest-narrow n [] tt)
-pieces-narrow (Q.Done t) r n = (tt, none-narrow n)
-pieces-narrow Q.Quit r n = (tt, none-narrow n)
+pieces-narrow i Q.Stat r n = (tt, rest-narrow n [] tt)
+pieces-narrow i Q.Sta2 r n = (tt, rest-narrow n [] tt)
+pieces-narrow i Q.List r n = (tt, rest-narrow n [] tt)
+pieces-narrow i Q.Lis2 r n = (tt, rest-narrow n [] tt)
+pieces-narrow i Q.Recv r n = (tt, rest-narrow n [] tt)
+pieces-narrow i (Q.Rcv2 f) r n = (tt, rest-narrow n _ (tt, (tt, tt)))
+pieces-narrow i (Q.Send m) r n = (tt, rest-narrow n _ (tt, (r, tt)))
+pieces-narrow i (Q.Snd2 m f) r n = (tt, rest-narrow n _ (tt, (tt, (tt, tt))))
+pieces-narrow i Q.Data r n = (tt, rest-narrow n [] tt)
+pieces-narrow i (Q.Done t) r n = (tt, none-narrow n)
+pieces-narrow i Q.Quit r n = (tt, none-narrow n)
 
-piece-narrow : (q : Request) → NarrowRequest q → (n k : ℕ) → NarrowPiece n (pieceOf q n k)
+piece-narrow : (i : ℕ) (q : Request) → NarrowRequest q → (n k : ℕ) → NarrowPiece n (pieceOf i q n k)
 unfolding pieceOf
-piece-narrow q r n k = go (pieceList q n) k (pieces-narrow q r n)
+piece-narrow i q r n k = go (pieceList i q n) k (pieces-narrow i q r n)
   where
     go : (l : List Piece) (k : ℕ) → AllNarrow n l → NarrowPiece n (getD l k P.End)
     go [] k h = tt
@@ -168,9 +168,9 @@ piece-narrow q r n k = go (pieceList q n) k (pieces-narrow q r n)
     go (p ∷ l) (suc k) h = go l k (h .1)
 
 -- one that goes out is one of the first five
-piece-early : (q : Request) (n k : ℕ) → isEnd (pieceOf q n k) ≡ false → k < 5
+piece-early : (i : ℕ) (q : Request) (n k : ℕ) → isEnd (pieceOf i q n k) ≡ false → k < 5
 unfolding pieceOf
-piece-early q n k e = go (pieceList q n) 5 k (pieces-sent q n) e
+piece-early i q n k e = go (pieceList i q n) 5 k (pieces-sent i q n) e
   where
     go : (l : List Piece) (m k : ℕ) → Sent m l → isEnd (getD l k P.End) ≡ false → k < m
     go [] m k h e = absurd (true≢false e)
@@ -184,7 +184,7 @@ reading-goes : (s : St) (p : Phase) (lost : Bool) → Inv s → NarrowPhase (s .
     → Goes (frameOf (s .ses)) (beside (half (reading (s .ses) (s .ses .buf .head) (s .ses .buf .tail) p lost) (s .rx)) (s .msg))
 reading-goes s p lost x n =
     let g = x .good in
-    let w = wants-below (s .ses .capacity) p n (omega arith) in
+    let w = wants-below (dialectIn (s .ses)) (s .ses .capacity) p n (omega arith) in
     record { inv = inv-pending s _ x (n, omega arith); reply = omega arith; given = refl; frame = refl; asked = reads }
 
 asked-goes : (s : St) (p : Phase) (lost : Bool) → Inv s → NarrowPhase (s .ses .capacity) p → Goes (frameOf (s .ses)) (beside (asked (s .ses) (s .rx) p lost) (s .msg))
@@ -201,7 +201,7 @@ module _ (s : St) (p : Phase) (x : Inv s) (n : NarrowPhase (s .ses .capacity) p)
   fit : Fit (s .ses .capacity) p (turnOf s p)
   fit =
       let g = x .good in
-      turn-fit (s .ses .capacity) (s .rx) (s .ses .buf .head) (g .rx) (omega arith) p n (omega arith)
+      turn-fit (dialectIn (s .ses)) (s .ses .capacity) (s .rx) (s .ses .buf .head) (g .rx) (omega arith) p n (omega arith)
       (subst Bytes (view s g (wants (s .ses .capacity) p) l) (bytes-take (wants (s .ses .capacity) p) (held s) (x .bytes)))
 
   inv-turned : Inv (turned s (turnOf s p))
@@ -214,6 +214,7 @@ module _ (s : St) (p : Phase) (x : Inv s) (n : NarrowPhase (s .ses .capacity) p)
             (kept-length (s .rx) (s .msg) (s .ses .buf .head) ((turnOf s p) .keeps) (omega arith) (omega arith));
         wide = x .wide;
         lent = x .lent;
+        ids = x .ids;
         pending = tt;
         bytes = subst Bytes (sym (held-dropped s g ((turnOf s p) .drops) (omega arith))) (bytes-drop ((turnOf s p) .drops) (held s) (x .bytes));
       }
@@ -248,7 +249,7 @@ Carries s from n = 0 < n → from + n ≤ s .lent
 
 piece-goes : (s : St) (q : Request) (from n k : ℕ) → Inv s → NarrowRequest q → U64 from → startsIn q from ≡ true → Carries (s .ses) from n → U64 (k + 1)
     → Goes (frameOf (s .ses)) (out (sendPiece (s .ses) q from n k) (s .rx) (s .msg))
-piece-goes s q from n k x r f b h i = go (pieceOf q n k) (piece-narrow q r n k)
+piece-goes s q from n k x r f b h i = go (pieceOf (idFor (s .ses) q) q n k) (piece-narrow (idFor (s .ses) q) q r n k)
   where
     y : Inv (st (at (s .ses) (s .ses .buf) (Writing q from (k + 1))) (s .rx) (s .msg))
     y = inv-pending s _ x (r, (f, i), b)
@@ -275,7 +276,7 @@ message-goes s q from part x r f b h =
     t = tidied s
 
     m : List ℕ
-    m = bytesOfRequest published (meant q part)
+    m = bytesOfRequest (dialectIn (s .ses)) (meant q part)
 
     whole : t .ses .buf .tail + length m ≤ length (t .rx)
         → Goes (frameOf (s .ses)) (beside
@@ -290,6 +291,7 @@ message-goes s q from part x r f b h =
             good = good-at t (t .ses .buf) (over (t .rx) (t .ses .buf .tail) m) (s .msg) _ g (g .order) (g .inside) (over-length (t .rx) (t .ses .buf .tail) m l) refl;
             wide = x .wide;
             lent = x .lent;
+            ids = x .ids;
             pending = (r, (f, omega arith), b);
             bytes = subst Bytes (sym (window-keeps (t .rx) (t .ses .buf) (sound-of t g) m l)) (y .bytes);
           };
@@ -353,6 +355,6 @@ module _ (s : St) (from : ℕ) (lent : List ℕ) (x : Inv s) (f : U64 from) (h :
   unfolding wroteOn
   wrote-on-goes q k r b =
       pick-cases (Goes (frameOf (s .ses))) (eqb k 0) (λ e. resumed-goes q)
-      (λ e. pick-cases (Goes (frameOf (s .ses))) (isEnd (pieceOf q (length (carried q from lent)) k)) (λ g. resumed-goes q)
+      (λ e. pick-cases (Goes (frameOf (s .ses))) (isEnd (pieceOf (idFor (s .ses) q) q (length (carried q from lent)) k)) (λ g. resumed-goes q)
       (λ g. piece-goes s q from (length (carried q from lent)) k x r f b (λ z. omega (arith, carried-in q from lent b z))
-      (omega (arith, piece-early q (length (carried q from lent)) k g))))
+      (omega (arith, piece-early (idFor (s .ses) q) q (length (carried q from lent)) k g))))

@@ -7,6 +7,7 @@ use lib.ListN.{length}
 use Rattle.protocol.specs.Answers.{End, closed, error}
 use Rattle.protocol.specs.Calls.{Version, v1, v2, Call, call, nextEntry, nextChunk}
 use Rattle.protocol.specs.Messages.{PathOnly, stat, sta2, list, lis2, recv, Request, ask, rcv2, send, snd2, chunk, done, quit}
+use Rattle.id_table.specs.Settings.{settingsOf}
 use Rattle.record.specs.Record.{wordOf, size}
 use Rattle.recv_buf.specs.RecvBuf.{cursor, heldBytes}
 use Rattle.session.specs.Demand3.{System, Opened}
@@ -89,7 +90,7 @@ abbrev pub boundary : System (List ℕ)
 boundary =
     record {
       engine = exported;
-      opened = λ rec banner rx msg. openedBy (crossOpen rec banner (length rx) (length msg));
+      opened = λ rec o rx msg. openedBy (crossOpen rec (settingsOf (o .table)) (o .banner) (length rx) (length msg));
       place = λ rec. length rec ≡ size;
       lends = λ z. (outSize ≤ length (z .out)) × (length (z .lent) < 2 ^ 64);
     }

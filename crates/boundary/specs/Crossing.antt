@@ -10,6 +10,9 @@ use lib.ListN.{length, getD}
 use Rattle.protocol.specs.Bytes.{pick, put, bytesOf}
 use Rattle.protocol.specs.Features as P
 use Rattle.features.specs.declared.Features.{Features}
+use Rattle.id_table.specs.Settings.{begun, loaded as taken, lentIn}
+use Rattle.id_table.specs.declared.Lent.{Lent}
+use Rattle.id_table.specs.declared.Lent.the-variants as L
 use Rattle.record.specs.Record.{stored, loaded, size}
 use Rattle.request.specs.declared.Request.{Request}
 use Rattle.request.specs.declared.Request.the-variants as Q
@@ -79,17 +82,33 @@ onLoaded rec rx msg out k (some s) = k (st s rx msg)
 abbrev pub crossing : List ℕ → List ℕ → List ℕ → List ℕ → (St → Crossed) → Crossed
 crossing rec rx msg out k = pick (ltb (length out) outSize) (turnedAway rec rx msg out) (onLoaded rec rx msg out k (loaded rec))
 
--- ---- opening: 0, or 1 or 2, or 3 for a record of another length; a refusal leaves the record alone
+-- ---- settings: begun with the published ids, and the ids of a file put into them: 0, 3, 22 or 23; a refusal leaves them alone
+
+abbrev pub set : List ℕ → ℕ → List ℕ × ℕ
+set settings n = (settings, n)
+
+abbrev pub crossSettings : List ℕ → List ℕ × ℕ
+crossSettings settings = begun settings
+
+abbrev pub crossIds : (settings file : List ℕ) → List ℕ × ℕ
+crossIds settings file = taken settings file
+
+-- ---- opening: 0, or 1 or 2, or 3 for a record or settings of another length, or 22 or 23 for settings without a table (document 02, [9]);
+-- a refusal leaves the record alone
 
 pub record OpenCrossed : Type 0 where
   pub rec : List ℕ
   pub number : ℕ
 
-unfoldable pub crossOpen : List ℕ → (banner : List ℕ) → (rx msg : ℕ) → OpenCrossed
-crossOpen rec banner rx msg =
+-- the table that is lent, taken or refused
+abbrev pub openedWith : List ℕ → Features → (rx msg : ℕ) → Lent → OpenCrossed
+openedWith rec f rx msg (L.Ids t) = record { rec = stored (fresh rx msg f t); number = 0 }
+openedWith rec f rx msg (L.Refused n) = record { rec = rec; number = n }
+
+unfoldable pub crossOpen : List ℕ → (settings banner : List ℕ) → (rx msg : ℕ) → OpenCrossed
+crossOpen rec settings banner rx msg =
     pick (ltb 0 (openRefusal rx msg)) (record { rec = rec; number = openRefusal rx msg })
-    (pick (eqb (length rec) size) (record { rec = stored (fresh rx msg (featuresFrom (P.featuresOf banner))); number = 0 })
-    (record { rec = rec; number = 3 }))
+    (pick (eqb (length rec) size) (openedWith rec (featuresFrom (P.featuresOf banner)) rx msg (lentIn settings)) (record { rec = rec; number = 3 }))
 
 -- ---- starting a call: 1 stat, 2 stat_v2, 3 list, 4 list_v2, 5 recv, 6 recv_v2, 7 send, 8 send_v2, 9 data, 10 send_done, 11 quit,
 -- 12 and 13 a listing step, 14 recv_next; any other number is 5, after 3, 6 and 4. a is the mode of a push or the time of send_done, b the flags.

@@ -73,7 +73,7 @@ sizes =
     numbered (endKind spare closed) 0
     ∷ numbered (endKind spare (error 9)) 5
     ∷ numbered (endCode spare (error 9)) 9
-    ∷ numbered size 192
+    ∷ numbered size 256
     ∷ numbered outSize 112
     ∷ []
 

@@ -3,10 +3,12 @@ use mathlib.Core.Path.{refl}
 use Rattle.protocol.specs.Refusal.{requestRefusal, pathRefusal, flagRefusal, featureRefusal, transferRefusal}
 use Rattle.protocol.specs.Fact.{Hold}
 use Rattle.protocol.specs.Flags.{refusedFlags, several, unknown, dryRun}
+use Rattle.id_table.specs.IdsFile.{checked}
+use Rattle.id_table.specs.Settings.{lentIn}
 use Rattle.boundary_misuse.specs.Cases.{cases, afterwards}
 
 pub cases-hold : Hold cases
-unfolding requestRefusal pathRefusal flagRefusal featureRefusal transferRefusal refusedFlags several unknown dryRun
+unfolding lentIn checked requestRefusal pathRefusal flagRefusal featureRefusal transferRefusal refusedFlags several unknown dryRun
 cases-hold = refl
 
 pub afterwards-hold : Hold afterwards

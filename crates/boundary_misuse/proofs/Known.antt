@@ -51,7 +51,7 @@ bytes-held b c h = pick-cases Bytes (sound b c) (λ e. bytes-drop (c .head) _ (b
 pub inv-of : (s : Session) (rx msg : List ℕ) → Narrow s → length msg < 2 ^ 63 → Bytes rx → misfit s (length rx) (length msg) ≡ false → Inv (st s rx msg)
 inv-of s rx msg n w b e =
     let f = misfit-fits s (length rx) (length msg) e in
-    record { good = f; wide = omega (arith, f); lent = n .lent; pending = n .pending; bytes = bytes-held rx (s .buf) b }
+    record { good = f; wide = omega (arith, f); lent = n .lent; ids = n .ids; pending = n .pending; bytes = bytes-held rx (s .buf) b }
 
 -- a session that was opened is misfit where a buffer has another length
 pub misfit-own : (s : Session) (x m : ℕ) → Own s → misfit s x m ≡ (not (eqb x (s .capacity)) || not (eqb m (s .message)))

@@ -14,8 +14,8 @@ use Rattle.protocol.proofs.Bodies.{pick-cases}
 use Rattle.protocol.proofs.Bytes.{bytes-drop}
 use Rattle.protocol.proofs.Words.{le-below}
 use Rattle.record.proofs.States.{known-parts}
-use Rattle.record.specs.Fields.{isOne, low, dentFrom, dent2From, requests, phases, pendings, pendingOf, sessionOf, keepsIn, stepIn, known}
-use Rattle.record.specs.Narrow.{U32, U64, NarrowDent, NarrowDent2, NarrowPhase, NarrowRequest, NarrowPending, Narrow}
+use Rattle.record.specs.Fields.{isOne, low, dentFrom, dent2From, requests, phases, pendings, idsFrom, pendingOf, sessionOf, keepsIn, stepIn, known}
+use Rattle.record.specs.Narrow.{U32, U64, NarrowDent, NarrowDent2, NarrowPhase, NarrowRequest, NarrowPending, NarrowIds, Narrow}
 use Rattle.record.specs.Record.{wordOf, loaded, size}
 use Rattle.request.specs.declared.Request.{Request}
 use Rattle.session.specs.declared.Pending.{Pending}
@@ -46,7 +46,7 @@ all-map P Q f h (x ∷ xs) a = (h x (a .0), all-map P Q f h xs (a .1))
 
 -- ---- sessions
 
--- 24 numbers of 64 bits
+-- 32 numbers of 64 bits
 module _ (n : ℕ → ℕ) (w : (i : ℕ) → U64 (n i)) where
   l : (i : ℕ) → U32 (low (n i))
   l i = omega arith
@@ -100,9 +100,12 @@ module _ (n : ℕ → ℕ) (w : (i : ℕ) → U64 (n i)) where
       (λ e. l 12, all-map Phased Stepped reading (λ p r e. (r e, w 9)) (phases n) phases-narrow))
       (n 7)
 
+  ids-narrow : NarrowIds (idsFrom n)
+  ids-narrow = record { stat = w 24; list = w 25; send = w 26; recv = w 27; «data» = w 28; okay = w 29; dent = w 30; quit = w 31 }
+
   numbers-narrow : stepIn (n 0) (pendingOf n) ≡ true → Narrow (sessionOf n)
   unfolding sessionOf
-  numbers-narrow e = record { capacity = w 0; message = w 1; head = w 2; tail = w 3; lent = w 4; pending = pending-narrow e }
+  numbers-narrow e = record { capacity = w 0; message = w 1; head = w 2; tail = w 3; lent = w 4; ids = ids-narrow; pending = pending-narrow e }
 
 abbrev pub Widths : Option Session → Type 0
 Widths none = Unit {0}

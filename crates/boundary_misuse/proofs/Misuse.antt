@@ -1,10 +1,10 @@
 -- The claim: from the opening on, event after event, the exported functions refuse by the table and by nothing else.
 -- Assumes nothing.
 use Prim.Native.Nat.{ℕ, _≤_, _<_, _^_}
-use mathlib.Core.Bool.{Bool, true, false, not}
-use mathlib.Core.List.{List, [], _∷_}
+use mathlib.Core.Bool.{Bool, true, false, not, _&&_}
+use mathlib.Core.List.{List, [], _∷_, map}
 use mathlib.Core.Option.{Option, some}
-use mathlib.Core.Path.{_≡_, refl, sym, _∙_, subst}
+use mathlib.Core.Path.{_≡_, refl, sym, ap, _∙_, subst}
 use native.Mathlib.Omega.{arith}
 use borrow.Author.Tests.{le-ltb, ltb-false}
 use lib.Dec.{eqb, ltb}
@@ -15,8 +15,16 @@ use Rattle.protocol.specs.Bytes.{Bytes, pick}
 use Rattle.protocol.specs.Calls.{v1, v2, Call, call, nextEntry, nextChunk}
 use Rattle.protocol.specs.Refusal.{orElse, refuse}
 use Rattle.protocol.specs.Features.{featuresOf}
+use Rattle.protocol.specs.Ids.{all}
 use Rattle.protocol.specs.Messages.{stat, sta2, list, lis2, recv, ask, rcv2, send, snd2, chunk, done, quit}
-use Rattle.record.specs.Narrow.{U32, U64}
+use Rattle.id_table.specs.IdsFile as F
+use Rattle.id_table.specs.IdsFile.{count, badForm, equalValues, ids, areValues, twoEqual, checked}
+use Rattle.id_table.specs.Settings.{settingsSize, misplaced as otherLength, tableIn, lent, lentIn}
+use Rattle.id_table.specs.declared.Lent.{Lent}
+use Rattle.id_table.specs.declared.Lent.the-variants as L
+use Rattle.id_table.proofs.Laws.{id-tables}
+use Rattle.ids.specs.declared.Ids.{Ids}
+use Rattle.record.specs.Narrow.{U32, U64, NarrowIds}
 use Rattle.record.specs.Record.{stored, size}
 use Rattle.session.specs.declared.Answer.the-variants as A
 use Rattle.session.specs.declared.Reply.the-variants as R
@@ -29,14 +37,15 @@ use Rattle.session.specs.State.{St, st, Out}
 use Rattle.session.proofs.Demand3.{features-listed}
 use Rattle.session.proofs.Turns.{Frame, frameOf}
 use Rattle.boundary.specs.Boundary.{callNumber, firstNumber, flagNumber, stepOf}
-use Rattle.boundary.specs.Crossing.{Crossed, turnedAway, back, OpenCrossed, crossOpen, crossStart, crossRead, crossWrote, crossFault}
+use Rattle.boundary.specs.Crossing.{Crossed, turnedAway, back, OpenCrossed, openedWith, crossOpen, crossStart, crossRead, crossWrote, crossFault}
 use Rattle.boundary.specs.Heard.{answerHeard, heard}
 use Rattle.boundary.specs.Told.{replyNumber, outSize}
 use Rattle.boundary.proofs.Carried.{image, loads, back-image, read-back}
+use Rattle.boundary.proofs.Demand3.{ids-narrow}
 use Rattle.boundary.proofs.Heard.{heard-told}
 use Rattle.boundary.proofs.Reports.{NarrowRefusal, lets, by-number, by-feature}
 use Rattle.boundary.proofs.Steps.{Asked, idle, fine}
-use Rattle.boundary_misuse.specs.Misuse.{HostReport, hasRead, wrote, fault, Act, start, report, Event, WideAct, AllWide, crossedBy, Seen, opened, pending, openRefused, misfits, callOf, numbered, refusal}
+use Rattle.boundary_misuse.specs.Misuse.{HostReport, hasRead, wrote, fault, Act, start, report, Event, WideAct, AllWide, crossedBy, Seen, opened, pending, tableRefused, openRefused, misfits, callOf, numbered, refusal}
 use Rattle.boundary_misuse.specs.Claim.{heardOf, Answers, seenAfter, follow, Every, Opens, MisuseClaim}
 use Rattle.boundary_misuse.proofs.Known.{Own, own-of, misfit-own, seenOf, Knows, knows, pending-is}
 use Rattle.boundary_misuse.proofs.Unchanged.{not-refused, event-kept}
@@ -149,43 +158,69 @@ every v rec (e ∷ es) (knows s sh own asked) (w, ws) =
 
 -- ---- from the opening on
 
-abbrev opens : (rec banner : List ℕ) (c m : ℕ) (a b d : Bool) → OpenCrossed
-opens rec banner c m a b d =
-    pick (ltb 0 (pick a 1 (pick b 2 0))) (record { rec = rec; number = pick a 1 (pick b 2 0) })
-    (pick d (record { rec = stored (fresh c m (featuresFrom (featuresOf banner))); number = 0 }) (record { rec = rec; number = 3 }))
+-- settings are refused with a number that is not 0
+numberOf : Lent → ℕ
+numberOf (L.Ids t) = 1
+numberOf (L.Refused n) = n
 
-open-answers : (rec banner : List ℕ) (c m : ℕ) → Opens (openRefused rec c m) rec (crossOpen rec banner c m)
-unfolding crossOpen openRefusal
-open-answers rec banner c m = go (ltb c 8) (ltb m c) (eqb (length rec) size)
+lent-some : (s : List ℕ) (n : ℕ) → lentIn s ≡ L.Refused n → n ≡ 0 → ⊥
+unfolding lentIn checked numberOf
+lent-some s n e z = go (eqb (length s) settingsSize) (eqb (length vs) count && areValues vs) (twoEqual vs) e
   where
-    go : (a b d : Bool) → Opens (orElse (refuse a (refused 1)) (orElse (refuse b (refused 2)) (refuse (not d) (refused 3)))) rec (opens rec banner c m a b d)
-    go true b d = (refl, refl)
-    go false true d = (refl, refl)
-    go false false false = (refl, refl)
-    go false false true = refl
+    vs : List (List ℕ)
+    vs = map (tableIn s) all
 
-module _ (rec banner : List ℕ) (c m : ℕ) (wide : m < 2 ^ 63) where
-  abbrev new : Session
-  new = fresh c m (featuresFrom (featuresOf banner))
+    go : (a b d : Bool) → pick a (lent (tableIn s) (pick b (pick d (F.refused equalValues) (ids vs)) (F.refused badForm))) (L.Refused otherLength) ≡ L.Refused n → ⊥
+    go true true true f = absurd (omega (arith, ap numberOf f))
+    go true true false f = absurd (omega (arith, ap numberOf f))
+    go true false d f = absurd (omega (arith, ap numberOf f))
+    go false b d f = absurd (omega (arith, ap numberOf f))
 
-  own-new : 8 ≤ c → c ≤ m → Own new
-  own-new l r =
+abbrev opens : (rec banner : List ℕ) (c m : ℕ) (a b d : Bool) → Lent → OpenCrossed
+opens rec banner c m a b d t =
+    pick (ltb 0 (pick a 1 (pick b 2 0))) (record { rec = rec; number = pick a 1 (pick b 2 0) })
+    (pick d (openedWith rec (featuresFrom (featuresOf banner)) c m t) (record { rec = rec; number = 3 }))
+
+open-answers : (rec settings banner : List ℕ) (c m : ℕ) → Opens (openRefused rec settings c m) rec (crossOpen rec settings banner c m)
+unfolding crossOpen openRefusal
+open-answers rec settings banner c m = go (ltb c 8) (ltb m c) (eqb (length rec) size) (lentIn settings)
+  where
+    go : (a b d : Bool) (t : Lent)
+        → Opens (orElse (refuse a (refused 1)) (orElse (refuse b (refused 2)) (orElse (refuse (not d) (refused 3)) (tableRefused t)))) rec (opens rec banner c m a b d t)
+    go true b d t = (refl, refl)
+    go false true d t = (refl, refl)
+    go false false false t = (refl, refl)
+    go false false true (L.Ids t) = refl
+    go false false true (L.Refused n) = (refl, refl)
+
+module _ (rec settings banner : List ℕ) (c m : ℕ) (wide : m < 2 ^ 63) where
+  abbrev new : Ids → Session
+  new t = fresh c m (featuresFrom (featuresOf banner)) t
+
+  own-new : (t : Ids) → NarrowIds t → 8 ≤ c → c ≤ m → Own (new t)
+  own-new t n l r =
       record {
-        narrow = record { capacity = omega arith; message = omega arith; head = omega arith; tail = omega arith; lent = omega arith; pending = tt };
+        narrow = record { capacity = omega arith; message = omega arith; head = omega arith; tail = omega arith; lent = omega arith; ids = n; pending = tt };
         fits = record { order = omega arith; inside = omega arith; rx = refl; least = l; aside = r; msg = refl };
       }
 
-  opened-known : crossOpen rec banner c m .number ≡ 0 → Knows (opened banner c m) (crossOpen rec banner c m .rec)
+  -- the numbers of a table that is lent have 64 bits
+  lent-narrow : (t : Ids) → lentIn settings ≡ L.Ids t → NarrowIds t
+  lent-narrow t e = let x = id-tables .lends settings t e in subst NarrowIds (sym (x .table)) (ids-narrow (tableIn settings) (x .legal))
+
+  opened-known : crossOpen rec settings banner c m .number ≡ 0 → Knows (opened banner c m) (crossOpen rec settings banner c m .rec)
   unfolding crossOpen openRefusal
-  opened-known = go (ltb c 8) (ltb m c) (eqb (length rec) size) refl refl
+  opened-known = go (ltb c 8) (ltb m c) (eqb (length rec) size) (lentIn settings) refl refl refl
     where
-      go : (a b d : Bool) → ltb c 8 ≡ a → ltb m c ≡ b → opens rec banner c m a b d .number ≡ 0 → Knows (opened banner c m) (opens rec banner c m a b d .rec)
-      go true b d p q z = absurd (omega arith)
-      go false true d p q z = absurd (omega arith)
-      go false false false p q z = absurd (omega arith)
-      go false false true p q z =
-          subst (λ (fs : List Bool). Knows (record { capacity = c; message = m; features = fs; lent = 0; last = told P.done; ended = false }) (stored new))
-          (features-listed banner) (knows new (told P.done) (own-new (ltb-false _ _ p) (ltb-false _ _ q)) idle)
+      go : (a b d : Bool) (t : Lent) → ltb c 8 ≡ a → ltb m c ≡ b → lentIn settings ≡ t → opens rec banner c m a b d t .number ≡ 0
+          → Knows (opened banner c m) (opens rec banner c m a b d t .rec)
+      go true b d t p q e z = absurd (omega arith)
+      go false true d t p q e z = absurd (omega arith)
+      go false false false t p q e z = absurd (omega arith)
+      go false false true (L.Refused n) p q e z = absurd (lent-some settings n e z)
+      go false false true (L.Ids t) p q e z =
+          subst (λ (fs : List Bool). Knows (record { capacity = c; message = m; features = fs; lent = 0; last = told P.done; ended = false }) (stored (new t)))
+          (features-listed banner) (knows (new t) (told P.done) (own-new t (lent-narrow t e) (ltb-false _ _ p) (ltb-false _ _ q)) idle)
 
 -- ---- the claim
 
@@ -211,5 +246,5 @@ misuse =
       calls = call-numbers;
       opens = open-answers;
       unchanged = λ rec b e w. event-kept rec b e w (e .act) (w .act);
-      every = λ rec banner c m wide z es w. every (opened banner c m) (crossOpen rec banner c m .rec) es (opened-known rec banner c m wide z) w;
+      every = λ rec settings banner c m wide z es w. every (opened banner c m) (crossOpen rec settings banner c m .rec) es (opened-known rec settings banner c m wide z) w;
     }

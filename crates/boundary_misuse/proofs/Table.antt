@@ -12,8 +12,12 @@ use lib.ListN.{length}
 use Rattle.protocol.specs.Answers.{Answer, refused}
 use Rattle.protocol.specs.Bytes.{Bytes, pick}
 use Rattle.protocol.specs.Calls.{Call, call, nextEntry, nextChunk}
-use Rattle.protocol.specs.Refusal.{orElse, refuse, requestRefusal}
+use Rattle.protocol.specs.Ids.{letters, published}
+use Rattle.protocol.specs.Refusal.{Setting, orElse, refuse, requestRefusal}
 use Rattle.protocol.proofs.Bodies.{pick-cases}
+use Rattle.features.specs.Meaning.{listed}
+use Rattle.ids.specs.Ids.{tableOf}
+use Rattle.request_refusal.proofs.Laws.{alike}
 use Rattle.record.specs.Fields.{modeOf, flagsOf}
 use Rattle.record.proofs.States.{Below, above, first}
 use Rattle.record.specs.Narrow.{U32, U64, NarrowRequest, NarrowPending, Narrow}
@@ -114,7 +118,7 @@ fault-narrow kind code h = pick-cases NarrowFault (eqb kind 0) (λ e. tt) (λ e.
 
 -- what is kept: a quit has ended once its close is reported
 abbrev pub after : Session → Show → Frame
-after s sh = record { capacity = s .capacity; message = s .message; lent = s .lent; features = s .features; ended = closing sh || s .ended }
+after s sh = record { capacity = s .capacity; message = s .message; lent = s .lent; features = s .features; ids = s .ids; ended = closing sh || s .ended }
 
 -- ---- one session, and what is lent to it
 
@@ -160,9 +164,16 @@ module _ (s : Session) (lent rx msg : List ℕ) where
 
     -- ---- the calls
 
-    starts : (q : Request) → NarrowRequest q → Comes (behind (requestRefusal (settingOf s) (meant q lent))) begins here (startCall here q lent)
+    -- what is refused knows no letters
+    abbrev known : Setting
+    known = record { dialect = published; features = listed (s .features); ended = s .ended }
+
+    starts : (q : Request) → NarrowRequest q → Comes (behind (requestRefusal known (meant q lent))) begins here (startCall here q lent)
     unfolding startCall
-    starts q n = call-comes here _ begins _ (λ e. or-comes (requestRefusal (settingOf s) (meant q lent)) begins here _ (start-goes here (inv e) q lent n short))
+    starts q n =
+        subst (λ (r : Option Answer). Comes (behind r) begins here (startCall here q lent))
+        (alike (tableOf (s .ids)) letters (listed (s .features)) (s .ended) (s .ended) (meant q lent))
+        (call-comes here _ begins _ (λ e. or-comes (requestRefusal (settingOf s) (meant q lent)) begins here _ (start-goes here (inv e) q lent n short)))
 
     enters : (v : Version) → Comes (behind none) begins here (entryCall here v (length lent))
     unfolding entryCall

@@ -123,21 +123,46 @@ reported =
     ++ map (λ s. fits s false (report (fault 0 0)) none) asks
     ++ map (λ s. fits s false (report (fault 1 7)) none) asks
 
--- "1 receive buffer under 8; 2 message buffer shorter than the receive buffer"; a record of another length than 192
+-- "1 receive buffer under 8; 2 message buffer shorter than the receive buffer"; a record of another length than 256; settings of another
+-- length than 128, without a table, with two equal ids
+abbrev room : List ℕ
+room = replicate 68 0
+
+abbrev small : List ℕ
+small = ascii "statsta2listlis2sendsnd2recvrcv2datadoneokayfaildentdnt2quit" ++ room
+
+abbrev spaced : List ℕ
+spaced = ascii "statsta2listlis2sendsnd2recvrcv2datadoneokayfaildentdn 2stat" ++ room
+
+abbrev twice : List ℕ
+twice = ascii "statsta2listlis2sendsnd2recvrcv2datadoneokayfaildentdnt2stat" ++ room
+
+abbrev lends : (record-length : ℕ) → (settings : List ℕ) → (rx msg : ℕ) → Option Answer → Fact (Option Answer)
+lends n s rx msg p = record { computed = openRefused (replicate n 0) s rx msg; paper = p }
+
 abbrev opens : (record-length rx msg : ℕ) → Option Answer → Fact (Option Answer)
-opens n rx msg p = record { computed = openRefused (replicate n 0) rx msg; paper = p }
+opens n rx msg p = lends n small rx msg p
 
 abbrev opening : List (Fact (Option Answer))
 opening =
-    opens 192 8 8 none
-    ∷ opens 192 8 9 none
-    ∷ opens 192 7 7 (some (refused 1))
-    ∷ opens 192 7 6 (some (refused 1))
-    ∷ opens 192 8 7 (some (refused 2))
-    ∷ opens 191 7 6 (some (refused 1))
-    ∷ opens 191 8 7 (some (refused 2))
-    ∷ opens 191 8 8 (some (refused 3))
-    ∷ opens 193 8 8 (some (refused 3))
+    opens 256 8 8 none
+    ∷ opens 256 8 9 none
+    ∷ opens 256 7 7 (some (refused 1))
+    ∷ opens 256 7 6 (some (refused 1))
+    ∷ opens 256 8 7 (some (refused 2))
+    ∷ opens 255 7 6 (some (refused 1))
+    ∷ opens 255 8 7 (some (refused 2))
+    ∷ opens 255 8 8 (some (refused 3))
+    ∷ opens 257 8 8 (some (refused 3))
+    -- "22 .. 23, form first", behind 1, 2 and 3
+    ∷ lends 256 (0 ∷ small) 8 8 (some (refused 3))
+    ∷ lends 256 [] 8 8 (some (refused 3))
+    ∷ lends 256 spaced 8 8 (some (refused 22))
+    ∷ lends 256 twice 8 8 (some (refused 23))
+    ∷ lends 256 (replicate 128 0) 8 8 (some (refused 22))
+    ∷ lends 256 twice 7 7 (some (refused 1))
+    ∷ lends 256 spaced 8 7 (some (refused 2))
+    ∷ lends 255 twice 8 8 (some (refused 3))
     ∷ []
 
 abbrev pub cases : List (Fact (Option Answer))

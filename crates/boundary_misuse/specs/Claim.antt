@@ -56,10 +56,10 @@ Opens none rec o = o .number ≡ 0
 pub record MisuseClaim : Type 0 where
   -- the calls are those of demand 3, by their numbers, whatever is lent and passed where it does not count
   pub calls : (z : Spare) (q : Call) → callOf (callNumber q) (firstNumber z q) (flagNumber z q) (lentOf z q) ≡ some q
-  -- any record, any banner, any two lengths
-  pub opens : (rec banner : List ℕ) (c m : ℕ) → Opens (openRefused rec c m) rec (crossOpen rec banner c m)
+  -- any record, any settings, any banner, any two lengths
+  pub opens : (rec settings banner : List ℕ) (c m : ℕ) → Opens (openRefused rec settings c m) rec (crossOpen rec settings banner c m)
   -- where opening answers 0, any list of calls and reports after it
-  pub every : (rec banner : List ℕ) (c m : ℕ) → m < 2 ^ 63 → crossOpen rec banner c m .number ≡ 0
-      → (es : List Event) → AllWide es → Every (opened banner c m) (crossOpen rec banner c m .rec) es
+  pub every : (rec settings banner : List ℕ) (c m : ℕ) → m < 2 ^ 63 → crossOpen rec settings banner c m .number ≡ 0
+      → (es : List Event) → AllWide es → Every (opened banner c m) (crossOpen rec settings banner c m .rec) es
   -- and a refusal leaves any record unchanged, also one that no opening left
   pub unchanged : (rec : List ℕ) → Bytes rec → (e : Event) → Wide e → IsRefused (crossedBy rec e) → Unchanged rec e (crossedBy rec e)

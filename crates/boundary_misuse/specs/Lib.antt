@@ -1,3 +1,4 @@
 pub mod Misuse
 pub mod Claim
+pub mod Settled
 pub mod Cases

@@ -15,6 +15,9 @@ use Rattle.protocol.specs.Refusal.{orElse, refuse, callRefusal}
 use Rattle.protocol.specs.Features.{featuresOf}
 use Rattle.protocol.specs.Ids.{published}
 use Rattle.protocol.specs.Messages.{stat, sta2, list, lis2, recv, ask, rcv2, send, snd2, chunk, done, quit}
+use Rattle.id_table.specs.Settings.{lentIn}
+use Rattle.id_table.specs.declared.Lent.{Lent}
+use Rattle.id_table.specs.declared.Lent.the-variants as L
 use Rattle.record.specs.Record.{size}
 use Rattle.session.specs.Host.{Show, told, read, writeRx, writeLent, writeBytes, close}
 use Rattle.boundary.specs.Crossing.{Crossed, crossStart, crossRead, crossWrote, crossFault}
@@ -119,11 +122,16 @@ window close = 0
 
 -- ---- the table
 
--- 1 receive buffer under 8; 2 message buffer shorter than the receive buffer; 3 a record of another length
-abbrev pub openRefused : (rec : List ℕ) → (rx msg : ℕ) → Option Answer
-openRefused rec rx msg =
+-- what settings are refused for: 3 another length, 22 a value that is none, 23 two equal values (document 02, [9])
+abbrev pub tableRefused : Lent → Option Answer
+tableRefused (L.Ids t) = none
+tableRefused (L.Refused n) = some (refused n)
+
+-- 1 receive buffer under 8; 2 message buffer shorter than the receive buffer; 3 a record of another length; then the settings
+abbrev pub openRefused : (rec settings : List ℕ) → (rx msg : ℕ) → Option Answer
+openRefused rec settings rx msg =
     orElse (refuse (ltb rx 8) (refused 1))
-    (orElse (refuse (ltb msg rx) (refused 2)) (refuse (not (eqb (length rec) size)) (refused 3)))
+    (orElse (refuse (ltb msg rx) (refused 2)) (orElse (refuse (not (eqb (length rec) size)) (refused 3)) (tableRefused (lentIn settings))))
 
 -- 3 "the length of either buffer differs from the one at opening"; or no reply fits its slice
 abbrev pub misfits : Seen → Event → Bool
@@ -142,7 +150,7 @@ callOf n a b p =
     ∷ some (nextEntry v1) ∷ some (nextEntry v2) ∷ some nextChunk
     ∷ []) n none
 
--- 5 for a number that is no call's; 8, 7, 9 and 10 as the plain reader has them
+-- 5 for a number that is no call's; 8, 7, 9 and 10 as the plain reader has them, whatever the letters of its table
 abbrev pub numbered : Seen → Option Call → Option Answer
 numbered s none = some (refused 5)
 numbered s (some q) = callRefusal (record { dialect = published; features = s .features; ended = s .ended }) q

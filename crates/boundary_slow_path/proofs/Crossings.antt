@@ -20,7 +20,7 @@ use Rattle.session.specs.declared.Session.{Session}
 
 -- ---- a crossing: a slice too short, a record that holds none, a session
 
--- a record that holds a session is 192 bytes long
+-- a record that holds a session is 256 bytes long
 found-size : (rec : List ℕ) (l : Loaded) (s : Session) → l ≡ L.Session s → found l ≡ loaded rec → length rec ≡ size
 found-size rec l s e f = loaded-size rec s (ap found (sym e) ∙ f)
 

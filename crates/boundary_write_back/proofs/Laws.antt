@@ -15,7 +15,7 @@ use Rattle.session.specs.State.{Out}
 use Rattle.session.specs.declared.Stepped.{Stepped}
 use Rattle.boundary_write_back.specs.Back.{backInto}
 
--- in a record of 192 bytes
+-- in a record of 256 bytes
 pub back-into : (rec out : List ℕ) (o : Out) → length rec ≡ size → backInto rec out o ≡ back rec out o
 unfolding backInto
 back-into rec out o h = rw (eq-eqb (length rec) size h)

@@ -10,7 +10,7 @@ use Rattle.boundary.specs.Told.{replyNumber, replyBytes}
 use Rattle.record.specs.Record.{size, stored}
 use Rattle.session.specs.State.{Out}
 
--- as `back` where the record is 192 bytes long; another record is left alone
+-- as `back` where the record is 256 bytes long; another record is left alone
 unfoldable pub backInto : List ℕ → List ℕ → Out → Crossed
 backInto rec out o =
     crossed (pick (isRefusal (o .reply)) rec (pick (eqb (length rec) size) (stored (o .st .ses)) rec)) (o .st .rx) (o .st .msg)

@@ -1,7 +1,7 @@
 -- Every theorem that is promised, with its whole type: the front page of what is proved. docs/PROMISES.md says which paragraph each is for.
 -- Assumes nothing.
 use Prim.Native.Nat.{ℕ, _+_, _≤_, _<_}
-use mathlib.Core.Bool.{true, false}
+use mathlib.Core.Bool.{Bool, true, false}
 use mathlib.Core.List.{List, [], _∷_, _++_, map}
 use mathlib.Core.Logic.{_⊎_}
 use mathlib.Core.Option.{none, some}
@@ -12,14 +12,15 @@ use Rattle.protocol.specs.Answers.{End}
 use Rattle.protocol.specs.Banners as BannerFacts
 use Rattle.protocol.specs.Bytes.{Bytes, ascii, put}
 use Rattle.protocol.specs.Calls.{Call, messages}
-use Rattle.protocol.specs.Refusal.{Setting, refusal}
+use Rattle.protocol.specs.Refusal.{Setting, requestRefusal, refusal}
 use Rattle.protocol.specs.Decimal.{decimal, canonical}
 use Rattle.protocol.specs.Fact.{Hold}
 use Rattle.protocol.specs.Features.{featuresOf}
 use Rattle.protocol.specs.Flags.{refusedFlags}
 use Rattle.protocol.specs.Headers.{Accepted, Heads}
-use Rattle.protocol.specs.Ids.{Id, Dialect, Sound, named, published}
+use Rattle.protocol.specs.Ids.{Id, Dialect, Table, under, Sound, Legal, named, published}
 use Rattle.protocol.specs.Layouts as LayoutFacts
+use Rattle.protocol.specs.Lettered as LetterFacts
 use Rattle.protocol.specs.Limits as LimitFacts
 use Rattle.protocol.specs.Losses as LossFacts
 use Rattle.protocol.specs.Messages.{Request, chunk, snd2, joined, bytesOfRequest, pieces, HostWrites}
@@ -37,6 +38,7 @@ use Rattle.protocol.proofs.Decimal as Decimal
 use Rattle.protocol.proofs.Flags as Flags
 use Rattle.protocol.proofs.Ids as Ids
 use Rattle.protocol.proofs.Layouts as Layouts
+use Rattle.protocol.proofs.Lettered as Lettered
 use Rattle.protocol.proofs.Limits as Limits
 use Rattle.protocol.proofs.Losses as Losses
 use Rattle.protocol.proofs.Messages as Messages
@@ -53,6 +55,18 @@ use Rattle.protocol_readers.specs.Wider.{widen, Unstopped, Like, unreadAt}
 use Rattle.protocol_readers.proofs.Wider as Wider
 use Rattle.protocol_readers.specs.Compared.{Compared}
 use Rattle.protocol_readers.proofs.Compared as Comparing
+use Rattle.ids.specs.Ids.{dialectOf, idsOf}
+use Rattle.ids.proofs.Laws as Numbered
+use Rattle.text_lines.specs.Claim.{TextLines}
+use Rattle.text_lines.specs.Facts as LineFacts
+use Rattle.text_lines.proofs.Facts as LineRows
+use Rattle.text_lines.proofs.Lines as Lines
+use Rattle.id_table.specs.Claim.{IdTables}
+use Rattle.id_table.specs.Facts as IdFacts
+use Rattle.id_table.specs.IdsFile.{ids, idsIn}
+use Rattle.id_table.specs.Settings.{tableFrom, settingsOf}
+use Rattle.id_table.proofs.Facts as IdRows
+use Rattle.id_table.proofs.Laws as Tables
 use Rattle.recv_buf.specs.RecvBuf.{heldCount, heldBytes, taken, filled, compacted, holding}
 use Rattle.recv_buf.specs.declared.RecvBuf.{RecvBuf}
 use Rattle.recv_buf.proofs.Laws as Buffer
@@ -63,6 +77,7 @@ use Rattle.request.proofs.Letters as Letters
 use Rattle.record.specs.Narrow.{U64, Narrow}
 use Rattle.record.specs.Record.{stored, loaded}
 use Rattle.record.proofs.Stored as Stored
+use Rattle.request_refusal.proofs.Laws as Refusing
 use Rattle.request_reader.specs.Answers as ReadFacts
 use Rattle.request_reader.proofs.Answers as Reading
 use Rattle.session.specs.Core.{showOf, coreSystem}
@@ -80,6 +95,7 @@ use Rattle.session.proofs.Examples as Logs
 use Rattle.session.proofs.Resuming as Resuming
 use Rattle.session.proofs.Scripted as Scripted
 use Rattle.boundary.specs.Boundary.{boundary}
+use Rattle.boundary.specs.Crossing.{crossIds, crossOpen}
 use Rattle.boundary.specs.Crossings as CrossFacts
 use Rattle.boundary.specs.Heard.{heard}
 use Rattle.boundary.specs.Told.{replyNumber, replyBytes, outSize}
@@ -91,8 +107,11 @@ use Rattle.boundary_parts.specs.Bounds.{PartsInside}
 use Rattle.boundary_parts.proofs.Bounds as Bounds
 use Rattle.boundary_misuse.specs.Cases as CaseFacts
 use Rattle.boundary_misuse.specs.Claim as Table
+use Rattle.boundary_misuse.specs.Settled.{SettledClaim}
 use Rattle.boundary_misuse.proofs.Cases as Cases
 use Rattle.boundary_misuse.proofs.Misuse as Misuse
+use Rattle.boundary_misuse.proofs.Settled as Settled
+use Rattle.claims.proofs.Loading as Loading
 
 -- ---- the exported functions
 
@@ -104,9 +123,22 @@ demand-3 = Boundary.demand-3
 pub every-host : EveryHost boundary
 every-host = Boundary.every-host
 
+-- files of ids: every table's loads, no other does, and what is loaded or lent is what a session keeps (id_table/specs/Claim)
+pub id-tables : IdTables
+id-tables = Tables.id-tables
+
+-- settings that a file was loaded into open as its table
+pub loaded-opens : (settings file : List ℕ) → crossIds settings file .1 ≡ 0 → (values : List (List ℕ)) × (idsIn file ≡ ids values)
+    × ((rec banner : List ℕ) (rx msg : ℕ) → crossOpen rec (crossIds settings file .0) banner rx msg ≡ crossOpen rec (settingsOf (tableFrom values)) banner rx msg)
+loaded-opens = Loading.loaded-opens
+
 -- what is misplaced is refused by the table, and nothing else is (boundary_misuse/specs/Claim)
 pub misuse : Table.MisuseClaim
 misuse = Misuse.misuse
+
+-- no call and no report writes over what opening wrote: both lengths, the features, the ids (boundary_misuse/specs/Settled)
+pub settled-stays : SettledClaim
+settled-stays = Settled.settled-stays
 
 -- no reply names a part outside its slice, whoever wrote the record (boundary_parts/specs/Bounds)
 pub parts-inside : PartsInside
@@ -182,6 +214,19 @@ pub whole-answered : (d : Dialect) → Sound d → (s : List ℕ) → 8 ≤ leng
     → Bytes s → size ≤ length s → (readRequest d s ≡ refused) ⊎ ((q : Request) × (readRequest d s ≡ request q size))
 whole-answered = Requests.whole-answered
 
+-- ---- the same under every table that loading accepts, where the session has it as eight numbers
+
+pub dialect-kept : (t : Table) → Legal t → dialectOf (idsOf t) ≡ under t
+dialect-kept = Numbered.dialect-back
+
+pub legal-sound : (t : Table) → Legal t → Sound (under t)
+legal-sound = Ids.legal-sound
+
+-- ---- files of lines: fields joined by commas, lines ended by byte 10
+
+pub text-lines : TextLines
+text-lines = Lines.text-lines
+
 -- ---- the tables: what the definitions compute, beside what the documents say
 
 pub trials-hold : map (λ (t : Trial). t .computed) trials ≡ map (λ (t : Trial). t .paper) trials
@@ -189,6 +234,11 @@ trials-hold = Trials.trials-hold
 
 pub refusals-hold : map (λ (r : Row). refusal (settingAt r) (r .made)) rows ≡ map (λ (r : Row). r .paper) rows
 refusals-hold = Refusals.refusals-hold
+
+-- what a request is refused for knows no letters of a table, nor whether the session has ended
+pub refusals-alike : (t u : Table) (fs : List Bool) (e f : Bool) (q : Request)
+    → requestRefusal (record { dialect = under t; features = fs; ended = e }) q ≡ requestRefusal (record { dialect = under u; features = fs; ended = f }) q
+refusals-alike = Refusing.alike
 
 -- 8, then 7, of every path in every request, at every limit
 pub paths-refused : PathsRefused
@@ -218,6 +268,23 @@ banners-hold = Banners.banners-hold
 pub banners-read : BannerFacts.BannersRead
 banners-read = Banners.banners-read
 
+-- the same under other ids: what is written and in which pieces, requests read, replies, lists of calls
+pub letters-hold : Hold LetterFacts.writtenUnder × Hold LetterFacts.piecesUnder × Hold LetterFacts.readUnder
+letters-hold = (Lettered.written-under-hold, Lettered.pieces-under-hold, Lettered.read-under-hold)
+
+pub replies-under-hold : Hold LetterFacts.answeredUnder × Hold LetterFacts.listedUnder
+replies-under-hold = (Lettered.answered-under-hold, Lettered.listed-under-hold)
+
+-- files of lines and of ids, settings
+pub lines-hold : Hold LineFacts.reading × Hold LineFacts.writing
+lines-hold = LineRows.lines-hold
+
+pub files-hold : Hold IdFacts.taken × Hold IdFacts.malformed × Hold IdFacts.doubled
+files-hold = (IdRows.taken-hold, IdRows.malformed-hold, IdRows.doubled-hold)
+
+pub settings-hold : Hold IdFacts.settings × Hold IdFacts.lending
+settings-hold = (IdRows.settings-hold, IdRows.lending-holds)
+
 -- the panel's request reader, decimals, the ids
 pub receiving-holds : Hold ReceiveFacts.receiving
 receiving-holds = Received.receiving-holds
@@ -238,7 +305,7 @@ told-holds = Numbers.told-holds
 pub words-hold : Hold NumberFacts.words
 words-hold = Numbers.words-hold
 
-pub limits : LimitFacts.Limits
+pub limits : (t : Table) → LimitFacts.Limits t
 limits = Limits.limits
 
 pub lengths-hold : Hold LimitFacts.lengths

@@ -1,5 +1,6 @@
--- `Claims`: every theorem that is promised. `Exported`: what the five exported functions meet. `Applied`: demand 3 at a host, and a log beside
--- what the documents say.
+-- `Claims`: every theorem that is promised. `Exported`: what the seven exported functions meet. `Loading`: a file that is loaded, at the opening.
+-- `Applied`: demand 3 at a host, and logs beside what the documents say.
 pub mod Claims
 pub mod Exported
+pub mod Loading
 pub mod Applied

@@ -1,11 +1,12 @@
--- A host, a banner, buffers and a list of calls, and what is logged of them: a stat on a receive buffer of 16 bytes, a byte a read, and quit.
+-- A host, a banner, tables, buffers and a list of calls, and what is logged of them: a stat on a receive buffer of 16 bytes, a byte a read, and
+-- quit, under the published ids and under others.
 -- And another host, whose ninth read comes to an error: the stat is answered 13, and a second one goes on with the bytes that were left.
 -- Assumes nothing.
 use Prim.Native.Nat.{ℕ}
 use mathlib.Core.List.{List, [], _∷_, _++_, map}
 use mathlib.Core.Option.{some, none}
 use lib.Dec.{eqb}
-use lib.ListN.{length, replicate}
+use lib.ListN.{length, drop, replicate}
 use Rattle.protocol.specs.Answers as A
 use Rattle.protocol.specs.Answers.{Answer, closed, error}
 use Rattle.protocol.specs.Bytes.{ascii, pick}
@@ -17,6 +18,16 @@ use Rattle.session.specs.Host.{Host, Ask, Entry}
 
 abbrev pub banner : List ℕ
 banner = ascii "device::features=stat_v2,ls_v2"
+
+-- other ids: small letters, and for quit those of stat in the public documents
+abbrev pub small : List (List ℕ)
+small =
+    ascii "stat" ∷ ascii "sta2" ∷ ascii "list" ∷ ascii "lis2" ∷ ascii "send" ∷ ascii "snd2" ∷ ascii "recv" ∷ ascii "rcv2" ∷ ascii "data"
+    ∷ ascii "done" ∷ ascii "okay" ∷ ascii "fail" ∷ ascii "dent" ∷ ascii "dnt2" ∷ ascii "STAT" ∷ []
+
+-- the reply to a stat, under an id
+abbrev pub replied : (statId : List ℕ) → List ℕ
+replied statId = statId ++ drop 4 statReply
 
 abbrev pub calls : List Call
 calls = call (ask stat (ascii "/a")) ∷ call quit ∷ []
@@ -92,14 +103,14 @@ linesOf e =
 
 -- "stat: write; next(STAT); need 16; drop it": its message is composed at the front; sixteen reads, each into all that is free; mode, size
 -- and time at 4, 8 and 12. "quit: write; close."
-abbrev pub logged : List Lines
-logged =
+abbrev pub logged : (statId quitId : List ℕ) → List Lines
+logged statId quitId =
     record {
       answer = A.stat (record { mode = 33188; size = 1998; mtime = 5 });
       reads = row 1 15 15 1 ∷ row 2 14 14 2 ∷ row 3 13 13 3 ∷ row 4 12 12 4 ∷ row 5 11 11 5 ∷ row 6 10 10 6 ∷ row 7 9 9 7 ∷ row 8 8 8 8
           ∷ row 9 7 7 9 ∷ row 10 6 6 10 ∷ row 11 5 5 11 ∷ row 12 4 4 12 ∷ row 13 3 3 13 ∷ row 14 2 2 14 ∷ row 15 1 1 15 ∷ row 16 0 0 16
           ∷ [];
-      pieces = (ascii "STAT" ++ 2 ∷ 0 ∷ 0 ∷ 0 ∷ ascii "/a") ∷ [];
+      pieces = (statId ++ 2 ∷ 0 ∷ 0 ∷ 0 ∷ ascii "/a") ∷ [];
       composed = 0 ∷ [];
       closes = [];
       unread = [];
@@ -108,9 +119,9 @@ logged =
     ∷ record {
       answer = A.done;
       reads = [];
-      pieces = (ascii "QUIT" ++ 0 ∷ 0 ∷ 0 ∷ 0 ∷ []) ∷ [];
+      pieces = (quitId ++ 0 ∷ 0 ∷ 0 ∷ 0 ∷ []) ∷ [];
       composed = [];
-      closes = ((ascii "QUIT" ++ 0 ∷ 0 ∷ 0 ∷ 0 ∷ []) ∷ []) ∷ [];
+      closes = ((quitId ++ 0 ∷ 0 ∷ 0 ∷ 0 ∷ []) ∷ []) ∷ [];
       unread = [];
       ends = 16;
     }
@@ -118,23 +129,23 @@ logged =
 
 -- Nothing is consumed by an error (13, with its code). Eight bytes are held then, and the second message does not fit beside them: header
 -- and path go out each by itself.
-abbrev pub stumbled : List Lines
-stumbled =
+abbrev pub stumbled : (statId : List ℕ) → List Lines
+stumbled statId =
     record {
       answer = A.broken (error 5);
       reads = row 8 8 8 8 ∷ row 9 7 7 9 ∷ row 10 6 6 10 ∷ row 11 5 5 11 ∷ row 12 4 4 12 ∷ row 13 3 3 13 ∷ row 14 2 2 14 ∷ row 15 1 1 15
           ∷ row 16 0 0 16
           ∷ [];
-      pieces = (ascii "STAT" ++ 2 ∷ 0 ∷ 0 ∷ 0 ∷ ascii "/a") ∷ [];
+      pieces = (statId ++ 2 ∷ 0 ∷ 0 ∷ 0 ∷ ascii "/a") ∷ [];
       composed = 0 ∷ [];
       closes = [];
-      unread = statReply;
+      unread = replied statId;
       ends = 8;
     }
     ∷ record {
       answer = A.stat (record { mode = 33188; size = 1998; mtime = 5 });
       reads = row 1 15 15 1 ∷ row 2 14 14 2 ∷ row 3 13 13 3 ∷ row 4 12 12 4 ∷ row 5 11 11 5 ∷ row 6 10 10 6 ∷ row 7 9 9 7 ∷ row 8 8 8 8 ∷ [];
-      pieces = (ascii "STAT" ++ 2 ∷ 0 ∷ 0 ∷ 0 ∷ []) ∷ ascii "/a" ∷ [];
+      pieces = (statId ++ 2 ∷ 0 ∷ 0 ∷ 0 ∷ []) ∷ ascii "/a" ∷ [];
       composed = [];
       closes = [];
       unread = [];

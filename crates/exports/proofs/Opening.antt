@@ -1,48 +1,47 @@
 -- The cases of opening into a record. Assumes nothing.
-use mathlib.Core.Bool.{Bool, true, false}
+use mathlib.Core.Bool.{Bool}
 use mathlib.Core.List.{List}
-use mathlib.Core.Path.{_≡_, refl, sym, ap, _∙_}
-use Prim.Native.Nat.{ℕ}
-use borrow.Author.Tests.{eq-eqb, ne-eqb}
+use mathlib.Core.Path.{_≡_, sym, ap, _∙_}
+use Prim.Native.Nat.{ℕ, _≤_, _<_}
+use borrow.Author.Tests.{lt-ltb, le-ltb, eq-eqb, ne-eqb}
 use lib.Dec.{eqb, ltb}
 use lib.ListN.{length}
 use Rattle.protocol.specs.Bytes.{pick}
 use Rattle.protocol.specs.Features.{featuresOf}
-use Rattle.boundary.specs.Crossing.{OpenCrossed, crossOpen}
-use Rattle.session_calls.specs.Opening.{opened}
-use Rattle.session_calls.specs.declared.Opened.{Opened}
-use Rattle.session_calls.specs.declared.Opened.the-variants as O
+use Rattle.boundary.specs.Crossing.{openedWith, crossOpen}
+use Rattle.id_table.specs.Settings.{lentIn}
+use Rattle.id_table.specs.declared.Lent.{Lent}
+use Rattle.id_table.specs.declared.Lent.the-variants as L
+use Rattle.ids.specs.declared.Ids.{Ids}
 use Rattle.record.specs.Record.{size, stored}
 use Rattle.session.specs.Calls.{fresh, openRefusal}
 use Rattle.session.specs.Core.{featuresFrom}
 use Rattle.session.specs.declared.Session.{Session}
 use Rattle.exports.specs.Opened.{openCrossed}
 
--- what an opening comes to in a record
-abbrev into : List ℕ → Opened → OpenCrossed
-into rec (O.Session s) = pick (eqb (length rec) size) (openCrossed (stored s) 0) (openCrossed rec 3)
-into rec (O.Refused n) = openCrossed rec n
+module _ (rec settings banner : List ℕ) (rx msg n : ℕ) (e : n ≡ openRefusal rx msg) where
+  -- 1 or 2
+  pub open-refused : 0 < n → openCrossed rec n ≡ crossOpen rec settings banner rx msg
+  unfolding crossOpen
+  open-refused h = rw (← e, lt-ltb 0 n h)
 
-module _ (rec banner : List ℕ) (rx msg : ℕ) (o : Opened) where
-  crossed-open : o ≡ opened banner rx msg → into rec o ≡ crossOpen rec banner rx msg
-  unfolding opened crossOpen
-  crossed-open e = ap (into rec) e ∙ go (ltb 0 (openRefusal rx msg))
-    where
-      go : (b : Bool)
-          → into rec (pick b (O.Refused (openRefusal rx msg)) (O.Session (fresh rx msg (featuresFrom (featuresOf banner)))))
-          ≡ pick b (openCrossed rec (openRefusal rx msg)) (into rec (O.Session (fresh rx msg (featuresFrom (featuresOf banner)))))
-      go true = refl
-      go false = refl
+  module _ (z : n ≤ 0) where
+    -- 3 for the record
+    pub open-other : (length rec ≡ size → ⊥) → openCrossed rec 3 ≡ crossOpen rec settings banner rx msg
+    unfolding crossOpen
+    open-other h = rw (← e, le-ltb 0 n z, ne-eqb (length rec) size h)
 
-  pub open-refused : (n : ℕ) → o ≡ opened banner rx msg → o ≡ O.Refused n → openCrossed rec n ≡ crossOpen rec banner rx msg
-  open-refused n e f = ap (into rec) (sym f) ∙ crossed-open e
+    module _ (h : length rec ≡ size) (t : Lent) (f : t ≡ lentIn settings) where
+      taken : openedWith rec (featuresFrom (featuresOf banner)) rx msg t ≡ crossOpen rec settings banner rx msg
+      unfolding crossOpen
+      taken = rw (← e, le-ltb 0 n z, eq-eqb (length rec) size h, f)
 
-  module _ (s : Session) (e : o ≡ opened banner rx msg) (f : o ≡ O.Session s) where
-    pub open-in : length rec ≡ size → (rec′ : List ℕ) → rec′ ≡ pick (eqb (length rec) size) (stored s) rec
-        → openCrossed rec′ 0 ≡ crossOpen rec banner rx msg
-    open-in h rec′ g =
-        let i : rec′ ≡ stored s = rw (eq-eqb (length rec) size h) at g in
-        rw i (rw (eq-eqb (length rec) size h) at (ap (into rec) (sym f) ∙ crossed-open e))
+      -- the settings are refused, or a fresh session is stored
+      pub open-none : (k : ℕ) → t ≡ L.Refused k → openCrossed rec k ≡ crossOpen rec settings banner rx msg
+      open-none k g = ap (openedWith rec (featuresFrom (featuresOf banner)) rx msg) (sym g) ∙ taken
 
-    pub open-other : (length rec ≡ size → ⊥) → openCrossed rec 3 ≡ crossOpen rec banner rx msg
-    open-other h = rw (ne-eqb (length rec) size h) at (ap (into rec) (sym f) ∙ crossed-open e)
+      pub open-in : (ids : Ids) → t ≡ L.Ids ids → (s : Session) → s ≡ fresh rx msg (featuresFrom (featuresOf banner)) ids
+          → (rec′ : List ℕ) → rec′ ≡ pick (eqb (length rec) size) (stored s) rec → openCrossed rec′ 0 ≡ crossOpen rec settings banner rx msg
+      open-in ids g s i rec′ j =
+          let k : rec′ ≡ stored (fresh rx msg (featuresFrom (featuresOf banner)) ids) = (rw (eq-eqb (length rec) size h) at j) ∙ ap stored i in
+          rw k (ap (openedWith rec (featuresFrom (featuresOf banner)) rx msg) (sym g) ∙ taken)

@@ -1,7 +1,7 @@
 // The exported functions: a session in a lent record, both buffers, what is lent, and a slice for the reply.
 ghost use mathlib.Core.Path.{_≡_};
 ghost use lib.ListN.{length};
-ghost use Rattle.boundary.specs.Crossing.{crossed, crossOpen, crossStart, crossRead, crossWrote, crossFault};
+ghost use Rattle.boundary.specs.Crossing.{crossed, set, crossSettings, crossIds, crossOpen, crossStart, crossRead, crossWrote, crossFault};
 ghost use Rattle.record.specs.Record.{loaded};
 ghost use Rattle.fast_read.specs.Short.{shortIn};
 ghost use Rattle.exports.specs.Opened.{openCrossed};
@@ -22,11 +22,18 @@ use fast_replies::entry;
 use fast_replies::stat;
 use fast_request::request;
 use fast_sent::sent;
+use id_table::Lent;
+use id_table::load_ids;
+use id_table::published;
+use id_table::table_in;
 use record::SIZE;
 use record_store::store;
 use record_store::store_tail;
-use session_calls::Opened;
-use session_calls::open;
+use session_calls::fresh;
+use session_calls::open_refusal;
+
+// The answer to a record of another length.
+const OTHER_LENGTH: u32 = 3;
 
 // What a step that takes a fast path asks or tells.
 const TOLD: u32 = 0;
@@ -39,20 +46,49 @@ const WRITE_LENT: u32 = 3;
 
 const WRITE_BYTES: u32 = 4;
 
-// Opens a session in the record: 0, or 1 or 2, or 3 for a record of another length; a refusal leaves it alone.
+// The settings that a fresh host opens with: the published ids, and nothing else. 0; 3 for settings of another length, which are left alone.
 #[no_mangle]
-pub extern "C" fn yuglasno_open(rec: &mut [u8], banner: &[u8], rx: usize, msg: usize) -> u32
-    ensures { λ r. ⌜ openCrossed (now (rec .exit)) r ≡ crossOpen (now (rec .entry)) (now (banner .entry)) rx msg ⌝ }
+pub extern "C" fn yuglasno_settings(settings: &mut [u8]) -> u32
+    ensures { λ r. ⌜ set (now (settings .exit)) r ≡ crossSettings (now (settings .entry)) ⌝ }
 {
-    let opened = open(banner, rx, msg);
-    match opened {
-        Opened::Refused(n) => n as u32,
-        Opened::Session(s) => {
-            if rec.len() == SIZE {
-                store(s, rec);
-                return 0;
-            }
-            3
+    published(settings)
+}
+
+// The ids of a file into the settings: 0, or 3 for settings of another length, 22 for a file of another form, 23 for two equal ids; a refusal
+// leaves them alone.
+#[no_mangle]
+pub extern "C" fn yuglasno_ids(settings: &mut [u8], file: &[u8]) -> u32
+    ensures { λ r. ⌜ set (now (settings .exit)) r ≡ crossIds (now (settings .entry)) (now (file .entry)) ⌝ }
+{
+    load_ids(settings, file)
+}
+
+// Opens a session in the record, with the ids of the settings: 0, or 1 or 2, or 3 for a record or settings of another length, or 22 or 23 for
+// settings without ids; a refusal leaves it alone.
+#[no_mangle]
+pub extern "C" fn yuglasno_open(
+    rec: &mut [u8],
+    settings: &[u8],
+    banner: &[u8],
+    rx: usize,
+    msg: usize,
+) -> u32
+    ensures { λ r. ⌜ openCrossed (now (rec .exit)) r ≡ crossOpen (now (rec .entry)) (now (settings .entry)) (now (banner .entry)) rx msg ⌝ }
+{
+    let n = open_refusal(rx, msg);
+    if 0 < n {
+        return n as u32;
+    }
+    if rec.len() != SIZE {
+        return OTHER_LENGTH;
+    }
+    let lent = table_in(settings);
+    match lent {
+        Lent::Refused(k) => k as u32,
+        Lent::Ids(ids) => {
+            let s = fresh(banner, ids, rx, msg);
+            store(s, rec);
+            0
         }
     }
 }

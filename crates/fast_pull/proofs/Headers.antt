@@ -9,68 +9,66 @@ use borrow.Author.Tests.{le-leb, eq-eqb, ltb-true, leb-true}
 use lib.Dec.{ltb, leb}
 use lib.ListN.{length, drop}
 use Rattle.protocol.specs.Bytes.{same}
-use Rattle.protocol.specs.Ids.{letters, DATA}
+use Rattle.protocol.specs.Ids.{Dialect, FAIL, DATA}
 use Rattle.protocol.specs.Records.{idAt, argAt}
-use Rattle.protocol.proofs.Bytes.{same-eq}
 use Rattle.boundary.specs.Crossing.{crossed, backRead, crossRead}
 use Rattle.boundary.specs.Told.{replyNumber, outSize}
-use Rattle.fast_replies.specs.Direct.{tried, metBy, cameIn}
+use Rattle.fast_replies.specs.Direct.{tried, dialectHeld, heads, metBy, cameIn}
 use Rattle.fast_replies.proofs.Arrivals.{Met, met-of, came, good-came, read-met}
-use Rattle.fast_replies.proofs.Taken.{ses, head-same, tail-same, lent-same, pending-at, done-tried}
-use Rattle.fast_replies.proofs.Whole.{dropped, turn-goes, turn-asks, sees}
+use Rattle.fast_replies.proofs.Taken.{ses, head-same, tail-same, dialect-same, lent-same, pending-at, done-tried}
+use Rattle.fast_replies.proofs.Whole.{Heads, heads-of, dropped, turn-goes, turn-asks, sees, id-seen}
+use Rattle.record.proofs.Numbers.{one-forth}
 use Rattle.record.specs.Fields.{isOne, stepNumbers}
 use Rattle.record.specs.Record.{wordOf}
 use Rattle.recv_buf.specs.RecvBuf.{cursor, heldBytes}
 use Rattle.recv_buf.proofs.Laws.{held-length}
-use Rattle.session.proofs.Buf.{id-in, arg-in, sound-of}
+use Rattle.session.proofs.Buf.{arg-in, sound-of}
 use Rattle.session.specs.Phases.{wants, going, headed, turnAt}
 use Rattle.session.specs.State as S
-use Rattle.session.specs.State.{St, stepped, at, begun, Good}
+use Rattle.session.specs.State.{dialectIn, St, stepped, at, begun, Good}
 use Rattle.session.specs.Steps.{reading, readOn}
 use Rattle.session.specs.declared.Pending.the-variants.{Reading}
 use Rattle.session.specs.declared.Phase.the-variants.{Header, Body}
 use Rattle.session.specs.declared.Reply.the-variants as R
 use Rattle.session.specs.declared.Want.the-variants as W
 use Rattle.fast_record.specs.Standing.{numberIn, Stands, stepOf}
-use Rattle.fast_record.proofs.Laws.{number-in, stands-in, one-forth}
+use Rattle.fast_record.proofs.Laws.{number-in, stands-in}
 use Rattle.fast_pull.specs.Chunks.{bodyShort, shortLength, headerCame, headerDone, headerNow}
 
 -- `bodyShort`, taken apart
-pub record Short (x : List ℕ) (c : ℕ) : Type 0 where
-  pub sized : 8 ≤ length x
-  pub id : idAt x ≡ letters DATA
+pub record Short (d : Dialect) (x : List ℕ) (c : ℕ) : Type 0 where
+  pub header : Heads d (d .bytes DATA) x
   pub fits : 8 + argAt x ≤ c
   pub cut : length x < 8 + argAt x
 
-module _ (x : List ℕ) (c : ℕ) where
-  pub short-of : bodyShort x c ≡ true → Short x c
+module _ (d : Dialect) (x : List ℕ) (c : ℕ) where
+  pub short-of : bodyShort d x c ≡ true → Short d x c
   short-of e =
-      let (a, s) = and-eq-true-iff (leb 8 (length x) && same (idAt x) (letters DATA) && leb (8 + argAt x) c) (ltb (length x) (8 + argAt x)) .0 e in
-      let (b, f) = and-eq-true-iff (leb 8 (length x) && same (idAt x) (letters DATA)) (leb (8 + argAt x) c) .0 a in
-      let (l, d) = and-eq-true-iff (leb 8 (length x)) (same (idAt x) (letters DATA)) .0 b in
-      record { sized = leb-true _ _ l; id = same-eq _ _ d; fits = leb-true _ _ f; cut = ltb-true _ _ s }
+      let (a, s) = and-eq-true-iff (heads d (d .bytes DATA) x && leb (8 + argAt x) c) (ltb (length x) (8 + argAt x)) .0 e in
+      let (b, f) = and-eq-true-iff (heads d (d .bytes DATA) x) (leb (8 + argAt x) c) .0 a in
+      record { header = heads-of d (d .bytes DATA) x b; fits = leb-true _ _ f; cut = ltb-true _ _ s }
 
   -- the cases of `shortLength`, as the code tells them apart
-  pub length-out : bodyShort x c ≡ false → 0 ≡ shortLength x c
+  pub length-out : bodyShort d x c ≡ false → 0 ≡ shortLength d x c
   unfolding shortLength
   length-out e = rw e
 
-  pub length-in : bodyShort x c ≡ true → 8 + argAt x ≡ shortLength x c
+  pub length-in : bodyShort d x c ≡ true → 8 + argAt x ≡ shortLength d x c
   unfolding shortLength
   length-in e = rw e
 
-  module _ (n : ℕ) (f : n ≡ shortLength x c) where
-    pub not-short : n ≡ 0 → bodyShort x c ≡ false
-    not-short z = go (bodyShort x c) refl
+  module _ (n : ℕ) (f : n ≡ shortLength d x c) where
+    pub not-short : n ≡ 0 → bodyShort d x c ≡ false
+    not-short z = go (bodyShort d x c) refl
       where
-        go : (b : Bool) → bodyShort x c ≡ b → b ≡ false
+        go : (b : Bool) → bodyShort d x c ≡ b → b ≡ false
         go true p = let i = length-in p in absurd (omega (arith, f, i))
         go false p = refl
 
-    pub short-at : 0 < n → (bodyShort x c ≡ true) × (n ≡ 8 + argAt x)
-    short-at h = go (bodyShort x c) refl
+    pub short-at : 0 < n → (bodyShort d x c ≡ true) × (n ≡ 8 + argAt x)
+    short-at h = go (bodyShort d x c) refl
       where
-        go : (b : Bool) → bodyShort x c ≡ b → (b ≡ true) × (n ≡ 8 + argAt x)
+        go : (b : Bool) → bodyShort d x c ≡ b → (b ≡ true) × (n ≡ 8 + argAt x)
         go true p = (refl, f ∙ sym (length-in p))
         go false p = let i = length-out p in absurd (omega (arith, f, i))
 
@@ -80,9 +78,10 @@ awaited flag f until u register n p q r = rw (p, q, r)
 
 -- ---- in a session
 
-chunk-header : (c : ℕ) (rx : List ℕ) (i : ℕ) → idAt (drop i rx) ≡ letters DATA → turnAt c (Header W.Chunk) rx i ≡ going 0 (Body (argAt (drop i rx)))
+chunk-header : (d : Dialect) (c : ℕ) (rx : List ℕ) (i : ℕ) → same (idAt (drop i rx)) (d .bytes FAIL) ≡ false → same (idAt (drop i rx)) (d .bytes DATA) ≡ true
+    → turnAt d c (Header W.Chunk) rx i ≡ going 0 (Body (argAt (drop i rx)))
 unfolding turnAt headed
-chunk-header c rx i e = rw e
+chunk-header d c rx i f e = rw (f, e)
 
 module _ (s : St) (g : Good s) where
   abbrev x : List ℕ
@@ -91,18 +90,22 @@ module _ (s : St) (g : Good s) where
   abbrev y : List ℕ
   y = drop (s .ses .buf .head) (s .rx)
 
+  abbrev d : Dialect
+  d = dialectIn (s .ses)
+
   -- the header is held, and the rest is read for
-  rest-asked : (lost : Bool) → s .ses .buf .tail < s .ses .capacity → Short x (s .ses .capacity)
+  rest-asked : (lost : Bool) → s .ses .buf .tail < s .ses .capacity → Short d x (s .ses .capacity)
       → readOn s (Header W.Chunk) lost ≡ S.out (reading (s .ses) (s .ses .buf .head) (s .ses .buf .tail) (Body (argAt x)) lost) (s .rx) (s .msg)
   unfolding wants
   rest-asked lost room w =
       let c = s .ses .capacity in
       let i = s .ses .buf .head in
       let l = held-length (s .rx) (s .ses .buf) (sound-of s g) in
-      let there : 8 ≤ s .ses .buf .tail - s .ses .buf .head = omega (arith, w .sized) in
-      let e = sym (sees s g idAt 8 id-in there) ∙ w .id in
+      let there : 8 ≤ s .ses .buf .tail - s .ses .buf .head = omega (arith, w .header .sized) in
+      let f = id-seen s g (d .bytes FAIL) there (w .header .apart) in
+      let e = id-seen s g (d .bytes DATA) there (w .header .id) in
       let n = sees s g argAt 8 arg-in there in
-      turn-goes s (Header W.Chunk) lost (g .least) there 3 0 (Body (argAt y)) (chunk-header c (s .rx) i e)
+      turn-goes s (Header W.Chunk) lost (g .least) there 3 0 (Body (argAt y)) (chunk-header d c (s .rx) i f e)
       ∙ turn-asks (dropped s 0) (Body (argAt y)) lost 2 (omega (arith, w .fits, n)) (omega (arith, w .cut, n)) room
       ∙ rw (add-zero i, n)
 
@@ -114,7 +117,7 @@ module _ (rec rx msg lent out : List ℕ) (h : Stands rec (length rx) (length ms
   awaits : ses rec rx msg h .pending ≡ Reading (Header W.Chunk) (wordOf rec 9) lost
   awaits = pending-at rec rx msg h 17 state
 
-  module _ (k : ℕ) (m : Met rec rx k) (room : numberIn rec 3 + k < length rx) (w : Short (cameIn rec rx k) (length rx)) where
+  module _ (k : ℕ) (m : Met rec rx k) (room : numberIn rec 3 + k < length rx) (w : Short (dialectHeld rec) (cameIn rec rx k) (length rx)) where
     abbrev t : St
     t = came rec rx msg h k
 
@@ -123,7 +126,7 @@ module _ (rec rx msg lent out : List ℕ) (h : Stands rec (length rx) (length ms
     header-stepped =
         let g = good-came rec rx msg h k m in
         let j = tail-same rec rx msg h in
-        sym (rest-asked t g lost (omega (arith, room, j, g .rx)) (rw (head-same rec rx msg h, tail-same rec rx msg h, g .rx) at w))
+        sym (rest-asked t g lost (omega (arith, room, j, g .rx)) (rw (head-same rec rx msg h, tail-same rec rx msg h, dialect-same rec rx msg h, g .rx) at w))
 
     place : S.out (stepped (at (begun (ses rec rx msg h) (numberIn rec 4)) (cursor (numberIn rec 2) (numberIn rec 3 + k))
         (Reading (Body (argAt (cameIn rec rx k))) (numberIn rec 2 + (8 + argAt (cameIn rec rx k))) lost)) (R.Read (numberIn rec 3 + k) (length rx - (numberIn rec 3 + k)))) rx msg
@@ -153,10 +156,10 @@ module _ (rec rx msg lent out : List ℕ) (h : Stands rec (length rx) (length ms
         le-leb outSize (length out) o,
       ))
       (λ z.
-      let (a, w) = and-eq-true-iff (metBy rec rx k && ltb (numberIn rec 3 + k) (length rx)) (bodyShort x (length rx)) .0 z in
+      let (a, w) = and-eq-true-iff (metBy rec rx k && ltb (numberIn rec 3 + k) (length rx)) (bodyShort (dialectHeld rec) x (length rx)) .0 z in
       let (b, r) = and-eq-true-iff (metBy rec rx k) (ltb (numberIn rec 3 + k) (length rx)) .0 a in
       let m = met-of rec rx k b in
       let l = ltb-true (numberIn rec 3 + k) (length rx) r in
-      let v = short-of x (length rx) w in
+      let v = short-of (dialectHeld rec) x (length rx) w in
       read-met rec rx msg h lent same′ (Header W.Chunk) awaits k m out _ (place k m l v ∙ header-stepped k m l v))
       e

@@ -5,10 +5,10 @@ use mathlib.Core.Bool.{Bool, _&&_}
 use mathlib.Core.List.{List}
 use lib.Dec.{eqb, ltb, leb}
 use lib.ListN.{length}
-use Rattle.protocol.specs.Bytes.{pick, same}
-use Rattle.protocol.specs.Ids.{letters, DATA}
-use Rattle.protocol.specs.Records.{idAt, argAt}
-use Rattle.fast_replies.specs.Direct.{done, metBy, cameIn}
+use Rattle.protocol.specs.Bytes.{pick}
+use Rattle.protocol.specs.Ids.{Dialect, DATA}
+use Rattle.protocol.specs.Records.{argAt}
+use Rattle.fast_replies.specs.Direct.{done, dialectHeld, heads, metBy, cameIn}
 use Rattle.record.specs.Fields.{low}
 use Rattle.session.specs.declared.Answer.the-variants as A
 use Rattle.session.specs.declared.Reply.the-variants as R
@@ -37,16 +37,16 @@ unfoldable pub endOf : (rec rx : List ℕ) → (k : ℕ) → ℕ
 endOf rec rx k = pick (metBy rec rx k) (numberIn rec TAIL + k) 0
 
 -- x begins with a chunk that fits c bytes, and has not all of it
-abbrev pub bodyShort : (x : List ℕ) → (c : ℕ) → Bool
-bodyShort x c = leb 8 (length x) && same (idAt x) (letters DATA) && leb (8 + argAt x) c && ltb (length x) (8 + argAt x)
+abbrev pub bodyShort : Dialect → (x : List ℕ) → (c : ℕ) → Bool
+bodyShort d x c = heads d (d .bytes DATA) x && leb (8 + argAt x) c && ltb (length x) (8 + argAt x)
 
 -- how many bytes it takes, its header included; 0 where there is none
-unfoldable pub shortLength : (x : List ℕ) → (c : ℕ) → ℕ
-shortLength x c = pick (bodyShort x c) (8 + argAt x) 0
+unfoldable pub shortLength : Dialect → (x : List ℕ) → (c : ℕ) → ℕ
+shortLength d x c = pick (bodyShort d x c) (8 + argAt x) 0
 
 -- k bytes that came into the window, with the header, and there is room behind them
 abbrev pub headerCame : (rec rx : List ℕ) → (k : ℕ) → Bool
-headerCame rec rx k = metBy rec rx k && ltb (numberIn rec TAIL + k) (length rx) && bodyShort (cameIn rec rx k) (length rx)
+headerCame rec rx k = metBy rec rx k && ltb (numberIn rec TAIL + k) (length rx) && bodyShort (dialectHeld rec) (cameIn rec rx k) (length rx)
 
 -- the record and the reply then: the flag stays as it was
 abbrev pub headerDone : (rec rx : List ℕ) → (k : ℕ) → (out : List ℕ) → Bool × List ℕ × List ℕ

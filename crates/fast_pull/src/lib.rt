@@ -4,17 +4,20 @@ ghost use mathlib.Core.Path.{_≡_};
 ghost use Prim.Native.Nat.{ℕ, _≤_};
 ghost use lib.ListN.{length};
 ghost use Rattle.boundary.specs.Crossing.{crossed, crossStart, crossRead};
-ghost use Rattle.fast_replies.specs.Direct.{tried};
+ghost use Rattle.fast_replies.specs.Direct.{tried, dialectHeld};
 ghost use Rattle.record.specs.Record.{size};
 ghost use Rattle.fast_record.specs.Standing.{numberIn};
 ghost use Rattle.fast_pull.specs.Chunks.{nextDone, nextNow, endOf, shortLength, headerDone, headerNow, bodyDone, bodyNow};
 use boundary_reply::put_three;
 use boundary_reply::put_two;
 use fast_record::fits;
+use fast_record::id_in;
 use fast_record::is_idle;
 use fast_record::number;
 use fast_record::store_plain;
 use fast_record::store_step;
+use fast_replies::heads;
+use format_id::SyncId;
 use format_number::u32_at;
 use record::CHUNK_BODY;
 use record::CHUNK_HEADER;
@@ -26,9 +29,6 @@ use record::REGISTER;
 use record::STATE;
 use record::TAIL;
 use record::UNTIL;
-
-// The id DATA, its lowest byte first.
-const DATA: u32 = 0x4154_4144;
 
 // ---- the header is awaited
 
@@ -81,13 +81,10 @@ fn met(rec: &[u8], rx: &[u8], count: usize) -> usize
 }
 
 // How many bytes the chunk at the front of x takes, its header included, where it fits capacity and x has not all of it; 0 where not.
-fn short_len(x: &[u8], capacity: usize) -> usize
-    ensures { λ r. ⌜ r ≡ shortLength (now (x .entry)) capacity ⌝ }
+fn short_len(rec: &[u8], x: &[u8], capacity: usize) -> usize
+    ensures { λ r. ⌜ r ≡ shortLength (dialectHeld (now (rec .entry))) (now (x .entry)) capacity ⌝ }
 {
-    if x.len() < 8 {
-        return 0;
-    }
-    if u32_at(x, 0) == DATA {
+    if heads(rec, id_in(rec, SyncId::Data), x) {
         let n = u32_at(x, 4) as usize;
         let whole = 8 + n;
         if capacity < whole {
@@ -112,7 +109,7 @@ fn await_body(rec: &mut [u8], rx: &[u8], count: usize, out: &mut [u8]) -> bool
     }
     if end < rx.len() {
         let head = number(rec, HEAD);
-        let whole = short_len(&rx[head..end], rx.len());
+        let whole = short_len(rec, &rx[head..end], rx.len());
         if whole == 0 {
             return false;
         }

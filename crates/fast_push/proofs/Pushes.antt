@@ -8,15 +8,17 @@ use borrow.Author.Tests.{ne-eqb, eqb-true, ltb-true, leb-true, leb-false, not-tr
 use lib.Dec.{eqb, ltb}
 use lib.ListN.{length, drop, getD, length-take}
 use Rattle.protocol.specs.Bytes.{pick, put}
-use Rattle.protocol.specs.Ids.{published, letters, DATA}
+use Rattle.protocol.specs.Ids.{DATA}
 use Rattle.protocol.specs.Messages.{dataMost, word, messageOf, bytesOfRequest}
 use Rattle.protocol.proofs.Bytes.{put-out, putLength-in, putLength-out}
+use Rattle.ids.specs.Ids.{numberOf}
+use Rattle.ids.specs.declared.Ids.{Ids}
 use Rattle.boundary.specs.Crossing.{crossed, back, crossWrote}
 use Rattle.boundary.specs.Told.{replyNumber, outSize}
 use Rattle.fast_replies.specs.Direct.{tried}
 use Rattle.fast_replies.proofs.Taken.{ses, head-same, tail-same, lent-same, pending-at, no-report-refusal, done-tried, written-tried}
 use Rattle.request_message.proofs.Laws.{front-bytes}
-use Rattle.request_message.specs.Composed.{placed}
+use Rattle.request_message.specs.Composed.{only, placed}
 use Rattle.request_piece.proofs.Laws.{piece-part}
 use Rattle.request_piece.specs.Pieces.{headerOf, pieceList, pieceOf}
 use Rattle.request_piece.specs.declared.Piece.the-variants.{Lent, End}
@@ -24,18 +26,18 @@ use Rattle.recv_buf.proofs.Laws.{compacted-front}
 use Rattle.recv_buf.specs.RecvBuf.{cursor, compacted}
 use Rattle.request.specs.Meaning.{meant}
 use Rattle.request.specs.declared.Request.the-variants as Q
-use Rattle.session_sender.proofs.Laws.{wrote-whole, wrote-last, wrote-next, whole-out, pieces-out}
+use Rattle.session_sender.proofs.Laws.{bytes-own, wrote-whole, wrote-last, wrote-next, whole-out, pieces-out}
 use Rattle.session.specs.Reports.{refusalAt, wroteAt, reportWrote}
 use Rattle.session.specs.State as S
 use Rattle.session.specs.State.{St, st, Half, beside, stepped, at, begun}
-use Rattle.session.specs.Sends.{carried, messageOut, sent, resumed, wroteOn}
+use Rattle.session.specs.Sends.{carried, idFor, messageOut, sent, resumed, wroteOn}
 use Rattle.session.specs.declared.Pending.{Pending}
 use Rattle.session.specs.declared.Pending.the-variants.{Writing}
 use Rattle.session.specs.declared.Reply.{Reply}
 use Rattle.session.specs.declared.Reply.the-variants as R
-use Rattle.fast_record.specs.Standing.{numberIn, Stands, fits}
-use Rattle.fast_record.proofs.Laws.{number-in, fits-true}
-use Rattle.fast_push.specs.Pushing.{accepted, partIn, nextIn, nextPart, pushStep, partDone, partNow, hasRoom, goesOn, headerGoes, headerDone, headerNow, wholeGoes, wholeDone, wholeNow}
+use Rattle.fast_record.specs.Standing.{numberIn, idsHeld, Stands, fits}
+use Rattle.fast_record.proofs.Laws.{number-in, ids-held, fits-true}
+use Rattle.fast_push.specs.Pushing.{accepted, partIn, nextIn, nextPart, pushStep, partDone, partNow, hasRoom, goesOn, dataId, headerGoes, headerDone, headerNow, wholeGoes, nextBytes, wholeDone, wholeNow}
 
 -- the tests, taken apart
 pub record Accepted (rec : List ℕ) (x m l k o : ℕ) : Type 0 where
@@ -56,16 +58,16 @@ pub stands-inside : (rec : List ℕ) (x m : ℕ) → Stands rec x m → numberIn
 stands-inside rec x m h = omega (arith, h .inside, h .rx)
 
 -- a message of data is its header and the data
-data-length : (x : List ℕ) → length (bytesOfRequest published (meant Q.Data x)) ≡ 8 + length x
+data-length : (i : ℕ) (x : List ℕ) → length (bytesOfRequest (only i) (meant Q.Data x)) ≡ 8 + length x
 unfolding bytesOfRequest messageOf
-data-length x = ap (λ (l : List ℕ). length (letters DATA ++ word (length x) ++ l)) (append-nil x) ∙ front-bytes DATA (length x) x
+data-length i x = ap (λ (l : List ℕ). length (word i ++ word (length x) ++ l)) (append-nil x) ∙ front-bytes i (length x) x
 
 -- ... and has two pieces
-second-end : (n : ℕ) → End ≡ pieceOf Q.Data n 2
+second-end : (i n : ℕ) → End ≡ pieceOf i Q.Data n 2
 unfolding pieceOf pieceList
-second-end n = go (eqb n 0)
+second-end i n = go (eqb n 0)
   where
-    go : (b : Bool) → End ≡ getD (headerOf Q.Data n ∷ pick b [] (Lent ∷ [])) 2 End
+    go : (b : Bool) → End ≡ getD (headerOf i Q.Data n ∷ pick b [] (Lent ∷ [])) 2 End
     go true = refl
     go false = refl
 
@@ -79,16 +81,18 @@ pub read-at : (lent : List ℕ) {f g : ℕ} {p : List ℕ} → p ≡ carried Q.D
 read-at lent q e = q ∙ ap (λ (k : ℕ). carried Q.Data k lent) e
 
 -- the next message, as it is composed
-pub composed-whole : (rec rx lent : List ℕ) {at n : ℕ} {p x : List ℕ} → (x, n) ≡ placed rx at (bytesOfRequest published (meant Q.Data p))
-    → at ≡ numberIn rec 3 → p ≡ nextPart rec lent → numberIn rec 3 ≤ length rx → hasRoom rec (length rx) (length (nextPart rec lent)) ≡ true
-    → _≡_ {A = List ℕ × ℕ} (x, n) (put rx (numberIn rec 3) (bytesOfRequest published (meant Q.Data (nextPart rec lent))), 8 + length (nextPart rec lent))
-composed-whole rec rx lent q a e i f =
+pub composed-whole : (rec rx lent : List ℕ) {at i n : ℕ} {p x : List ℕ} → (x, n) ≡ placed rx at (bytesOfRequest (only i) (meant Q.Data p))
+    → i ≡ dataId rec → at ≡ numberIn rec 3 → p ≡ nextPart rec lent → numberIn rec 3 ≤ length rx
+    → hasRoom rec (length rx) (length (nextPart rec lent)) ≡ true
+    → _≡_ {A = List ℕ × ℕ} (x, n) (put rx (numberIn rec 3) (nextBytes rec lent), 8 + length (nextPart rec lent))
+composed-whole rec rx lent q d a e i f =
     let part = nextPart rec lent in
-    let m = bytesOfRequest published (meant Q.Data part) in
+    let m = nextBytes rec lent in
     let r = leb-true (8 + length part) (length rx - numberIn rec 3) f in
-    let l = data-length part in
+    let own = bytes-own (idsHeld rec) Q.Data part in
+    let l : length m ≡ 8 + length part = ap length (sym own) ∙ data-length (dataId rec) part in
     let room : numberIn rec 3 + length m ≤ length rx = omega (arith, r, i, l) in
-    q ∙ rw (a, e, putLength-in rx (numberIn rec 3) m room, l)
+    q ∙ rw (d, a, e, own, putLength-in rx (numberIn rec 3) m room, l)
 
 module _ (rec rx msg lent out : List ℕ) (k : ℕ) (e : accepted rec (length rx) (length msg) (length lent) k (length out) ≡ true) where
   a : Accepted rec (length rx) (length msg) (length lent) k (length out)
@@ -108,6 +112,10 @@ module _ (rec rx msg lent out : List ℕ) (k : ℕ) (e : accepted rec (length rx
 
   let-in : refusalAt s (length lent) ≡ 0
   let-in = no-report-refusal rec rx msg h (length lent) (a .same) _ writes refl
+
+  -- its number of DATA is the record's
+  own : dataId rec ≡ idFor (ses rec rx msg h) Q.Data
+  own = ap (λ (t : Ids). numberOf t DATA) (sym (ids-held rec (length rx) (length msg) h))
 
   -- the step, by the session's own definitions
   wrote-data : wroteOn s Q.Data from k lent ≡ reportWrote s lent
@@ -139,8 +147,8 @@ module _ (rec rx msg lent out : List ℕ) (e : accepted rec (length rx) (length 
       → S.out (stepped (at (ses rec rx msg (h rec rx msg lent out 1 e)) (ses rec rx msg (h rec rx msg lent out 1 e) .buf) (Writing Q.Data (numberIn rec 10) 2)) (R.WriteLent (numberIn rec 10) (length (partIn rec lent)))) rx msg
       ≡ reportWrote (s rec rx msg lent out 1 e) lent
   part-stepped z =
-      wrote-next (s rec rx msg lent out 1 e) Q.Data (numberIn rec 10) 1 lent (λ q. omega (arith, q)) (partIn rec lent) refl Lent
-      (piece-part Q.Data (length (partIn rec lent)) 1 (λ q. omega (arith, q)) (λ q. omega (arith, z, q))) refl
+      wrote-next (s rec rx msg lent out 1 e) Q.Data (numberIn rec 10) 1 lent (λ q. omega (arith, q)) (partIn rec lent) refl (dataId rec)
+      (own rec rx msg lent out 1 e) Lent (piece-part (dataId rec) Q.Data (length (partIn rec lent)) 1 (λ q. omega (arith, q)) (λ q. omega (arith, z, q))) refl
       ∙ wrote-data rec rx msg lent out 1 e
 
   pub part-tried : (t : Bool) (new told : List ℕ) → (t, new, told) ≡ partDone rec lent out
@@ -162,10 +170,11 @@ module _ (rec rx msg lent out : List ℕ) (e : accepted rec (length rx) (length 
   u = s rec rx msg lent out 2 e
 
   last : resumed u Q.Data (numberIn rec 10) lent ≡ wroteOn u Q.Data (numberIn rec 10) 2 lent
-  last = wrote-last u Q.Data (numberIn rec 10) 2 lent (λ q. omega (arith, q)) (partIn rec lent) refl End (second-end (length (partIn rec lent))) refl
+  last = wrote-last u Q.Data (numberIn rec 10) 2 lent (λ q. omega (arith, q)) (partIn rec lent) refl (dataId rec) (own rec rx msg lent out 2 e) End
+      (second-end (dataId rec) (length (partIn rec lent))) refl
 
   header-stepped : headerGoes rec rx lent ≡ true
-      → S.out (stepped (at (u .ses) (u .ses .buf) (Writing Q.Data (nextIn rec lent) 1)) (R.WriteBytes (headerOf Q.Data (length (nextPart rec lent))))) rx msg
+      → S.out (stepped (at (u .ses) (u .ses .buf) (Writing Q.Data (nextIn rec lent) 1)) (R.WriteBytes (headerOf (dataId rec) Q.Data (length (nextPart rec lent))))) rx msg
       ≡ reportWrote u lent
   unfolding pieceOf pieceList
   header-stepped z =
@@ -173,18 +182,20 @@ module _ (rec rx msg lent out : List ℕ) (e : accepted rec (length rx) (length 
       let part = nextPart rec lent in
       let (g, f) = and-eq-true-iff (goesOn rec lent) (not (hasRoom rec (length rx) (length part))) .0 z in
       let w = leb-false (8 + length part) (length rx - numberIn rec 3) (not-true _ f) in
-      let m = bytesOfRequest published (meant Q.Data part) in
-      let short : length rx < u .ses .buf .tail + length m = omega (arith, w, tail-same rec rx msg v, data-length part, stands-inside rec (length rx) (length msg) v) in
-      ap (λ (o : Half). beside o msg)
-      (pieces-out (u .ses) rx Q.Data (nextIn rec lent) part rx (u .ses .buf) (front rec rx msg lent out 2 e last g) rx 0
+      let i = own rec rx msg lent out 2 e in
+      let m = bytesOfRequest (only (dataId rec)) (meant Q.Data part) in
+      let short : length rx < u .ses .buf .tail + length m = omega (arith, w, tail-same rec rx msg v, data-length (dataId rec) part, stands-inside rec (length rx) (length msg) v) in
+      rw i
+      (ap (λ (o : Half). beside o msg)
+      (pieces-out (u .ses) rx Q.Data (nextIn rec lent) part rx (u .ses .buf) (front rec rx msg lent out 2 e last g) (dataId rec) i rx 0
       (rw (put-out rx (u .ses .buf .tail) m short, putLength-out rx (u .ses .buf .tail) m short)) refl)
-      ∙ sends rec rx msg lent out 2 e last g
+      ∙ sends rec rx msg lent out 2 e last g)
 
   pub header-tried : (t : Bool) (new told : List ℕ) → (t, new, told) ≡ headerDone rec rx lent out
       → (t, crossed new rx msg told 4) ≡ tried (headerNow rec rx msg lent out) (crossWrote rec rx msg lent out) (crossed rec rx msg out 4)
   unfolding crossWrote replyNumber
   header-tried t new told d =
-      let r = R.WriteBytes (headerOf Q.Data (length (nextPart rec lent))) in
+      let r = R.WriteBytes (headerOf (dataId rec) Q.Data (length (nextPart rec lent))) in
       let p = Writing Q.Data (nextIn rec lent) 1 in
       done-tried rec rx msg out (h rec rx msg lent out 2 e) (a rec rx msg lent out 2 e .room) (λ s. back rec out (reportWrote s lent)) (numberIn rec 2)
       (numberIn rec 3) (numberIn rec 4) 4 (pushStep (nextIn rec lent) 1) p r refl refl refl (headerGoes rec rx lent) (headerNow rec rx msg lent out) t new told (rw e)
@@ -198,7 +209,7 @@ module _ (rec rx msg lent out : List ℕ) (e : accepted rec (length rx) (length 
   w = s rec rx msg lent out 0 e
 
   abbrev composed : List ℕ
-  composed = put rx (numberIn rec 3) (bytesOfRequest published (meant Q.Data (nextPart rec lent)))
+  composed = put rx (numberIn rec 3) (nextBytes rec lent)
 
   whole-stepped : wholeGoes rec rx lent ≡ true
       → S.out (stepped (at (w .ses) (w .ses .buf) (Writing Q.Data (nextIn rec lent) 0)) (R.WriteRx (numberIn rec 3) (8 + length (nextPart rec lent)))) composed msg
@@ -209,11 +220,11 @@ module _ (rec rx msg lent out : List ℕ) (e : accepted rec (length rx) (length 
       let (g, f) = and-eq-true-iff (goesOn rec lent) (hasRoom rec (length rx) (length part)) .0 z in
       let y = tail-same rec rx msg v in
       let whole = wrote-whole w Q.Data (numberIn rec 10) 0 lent refl in
-      let c = composed-whole rec rx lent {at = numberIn rec 3} {p = part} refl refl refl (stands-inside rec (length rx) (length msg) v) f in
+      let c = composed-whole rec rx lent {at = numberIn rec 3} {i = dataId rec} {p = part} refl refl refl refl (stands-inside rec (length rx) (length msg) v) f in
       rw y
       (ap (λ (o : Half). beside o msg)
-      (whole-out (w .ses) rx Q.Data (nextIn rec lent) part rx (w .ses .buf) (front rec rx msg lent out 0 e whole g)
-      (put rx (w .ses .buf .tail) (bytesOfRequest published (meant Q.Data part))) (8 + length part) (sym (rw y at c)) (λ q. omega (arith, q)))
+      (whole-out (w .ses) rx Q.Data (nextIn rec lent) part rx (w .ses .buf) (front rec rx msg lent out 0 e whole g) (dataId rec) (own rec rx msg lent out 0 e)
+      (put rx (w .ses .buf .tail) (nextBytes rec lent)) (8 + length part) (sym (rw y at c)) (λ q. omega (arith, q)))
       ∙ sends rec rx msg lent out 0 e whole g)
 
   pub whole-tried : (t : Bool) (new rx′ told : List ℕ) → (t, new, rx′, told) ≡ wholeDone rec rx lent out

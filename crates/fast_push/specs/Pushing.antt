@@ -7,16 +7,17 @@ use mathlib.Core.List.{List}
 use lib.Dec.{eqb, ltb, leb}
 use lib.ListN.{length}
 use Rattle.protocol.specs.Bytes.{put}
-use Rattle.protocol.specs.Ids.{published}
+use Rattle.protocol.specs.Ids.{DATA}
 use Rattle.protocol.specs.Messages.{bytesOfRequest}
 use Rattle.fast_replies.specs.Direct.{done, written}
+use Rattle.ids.specs.Ids.{numberOf, dialectOf}
 use Rattle.request_piece.specs.Pieces.{headerOf}
 use Rattle.request.specs.Meaning.{meant}
 use Rattle.request.specs.declared.Request.the-variants as Q
 use Rattle.session.specs.Sends.{carried}
 use Rattle.session.specs.declared.Reply.the-variants as R
 use Rattle.fast_record.specs.Names.{HEAD, TAIL, LENT, STATE, FROM, PIECE, DATA-OUT}
-use Rattle.fast_record.specs.Standing.{numberIn, fits, stepOf}
+use Rattle.fast_record.specs.Standing.{numberIn, idsHeld, fits, stepOf}
 
 -- state 9, with the k-th piece out; 0, the whole message. The buffers have x and m bytes, l are lent, o are there for the reply.
 abbrev pub accepted : (rec : List ℕ) → (x m l k o : ℕ) → Bool
@@ -58,6 +59,10 @@ hasRoom rec x n = leb (8 + n) (x - numberIn rec TAIL)
 abbrev pub goesOn : (rec lent : List ℕ) → Bool
 goesOn rec lent = eqb (numberIn rec HEAD) 0 && ltb 0 (length (nextPart rec lent))
 
+-- the number of DATA, by the record's ids
+abbrev pub dataId : (rec : List ℕ) → ℕ
+dataId rec = numberOf (idsHeld rec) DATA
+
 -- its header, where the message does not fit
 abbrev pub headerGoes : (rec rx lent : List ℕ) → Bool
 headerGoes rec rx lent = goesOn rec lent && not (hasRoom rec (length rx) (length (nextPart rec lent)))
@@ -65,19 +70,22 @@ headerGoes rec rx lent = goesOn rec lent && not (hasRoom rec (length rx) (length
 abbrev pub headerDone : (rec rx lent out : List ℕ) → Bool × List ℕ × List ℕ
 headerDone rec rx lent out =
     done (headerGoes rec rx lent) rec (numberIn rec HEAD) (numberIn rec TAIL) (numberIn rec LENT) (pushStep (nextIn rec lent) 1)
-    (R.WriteBytes (headerOf Q.Data (length (nextPart rec lent)))) out
+    (R.WriteBytes (headerOf (dataId rec) Q.Data (length (nextPart rec lent)))) out
 
 abbrev pub headerNow : (rec rx msg lent out : List ℕ) → Bool
 headerNow rec rx msg lent out = accepted rec (length rx) (length msg) (length lent) 2 (length out) && headerGoes rec rx lent
 
--- it whole, composed behind what is held, where it fits
+-- it whole, composed under the record's ids behind what is held, where it fits
 abbrev pub wholeGoes : (rec rx lent : List ℕ) → Bool
 wholeGoes rec rx lent = goesOn rec lent && hasRoom rec (length rx) (length (nextPart rec lent))
+
+abbrev pub nextBytes : (rec lent : List ℕ) → List ℕ
+nextBytes rec lent = bytesOfRequest (dialectOf (idsHeld rec)) (meant Q.Data (nextPart rec lent))
 
 abbrev pub wholeDone : (rec rx lent out : List ℕ) → Bool × List ℕ × List ℕ × List ℕ
 wholeDone rec rx lent out =
     written (wholeGoes rec rx lent) rec rx (numberIn rec HEAD) (numberIn rec TAIL) (numberIn rec LENT) (pushStep (nextIn rec lent) 0)
-    (put rx (numberIn rec TAIL) (bytesOfRequest published (meant Q.Data (nextPart rec lent)))) (R.WriteRx (numberIn rec TAIL) (8 + length (nextPart rec lent))) out
+    (put rx (numberIn rec TAIL) (nextBytes rec lent)) (R.WriteRx (numberIn rec TAIL) (8 + length (nextPart rec lent))) out
 
 abbrev pub wholeNow : (rec rx msg lent out : List ℕ) → Bool
 wholeNow rec rx msg lent out = accepted rec (length rx) (length msg) (length lent) 0 (length out) && wholeGoes rec rx lent

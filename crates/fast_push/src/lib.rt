@@ -13,6 +13,7 @@ ghost use Rattle.fast_push.specs.Pushing.{accepted, hasRoom, nextIn, pus
 use boundary_reply::put_piece;
 use boundary_reply::put_two;
 use fast_record::fits;
+use fast_record::id_in;
 use fast_record::number;
 use fast_record::store_step;
 use format_id::SyncId;
@@ -117,7 +118,8 @@ fn put_header(rec: &mut [u8], rx: &[u8], lent: &[u8], out: &mut [u8]) -> bool
             return false;
         }
         let arg = (n % 0x1_0000_0000) as u32;
-        put_piece(out, Piece::Header(SyncId::Data, arg));
+        let id = id_in(rec, SyncId::Data);
+        put_piece(out, Piece::Header(id, arg));
         store_push(rec, from, 1);
         return true;
     }
@@ -148,7 +150,8 @@ fn put_whole(rec: &mut [u8], rx: &mut [u8], lent: &[u8], out: &mut [u8]) -> bool
         }
         if has_room(rec, rx.len(), n) {
             let tail = number(rec, TAIL);
-            let len = compose_at(rx, tail, Request::Data, part);
+            let id = id_in(rec, SyncId::Data);
+            let len = compose_at(rx, tail, id, Request::Data, part);
             put_two(out, tail as u64, len as u64);
             store_push(rec, from, 0);
             return true;

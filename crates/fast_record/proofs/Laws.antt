@@ -1,23 +1,27 @@
 -- A record whose session stands, by its numbers; and its session, stored with another step. Assumes nothing.
 use mathlib.Core.Bool.{Bool, true, false, not, _&&_, and-eq-true-iff, true≢false}
-use mathlib.Core.List.{List, [], _∷_}
+use mathlib.Core.List.{List, _++_}
 use mathlib.Core.Option.{Option, none, some}
 use mathlib.Core.Path.{_≡_, refl, sym, ap, _∙_, subst}
-use Prim.Native.Nat.{ℕ, zero, suc, _+_, _*_, _/_, _%_, _^_, _≤_, _<_}
+use Prim.Native.Nat.{ℕ, zero, suc, _+_, _*_, _%_, _^_, _≤_, _<_}
 use native.Mathlib.Decide.{decLe}
-use native.Mathlib.Nat.{pow-succ', lt-of-not-le, lt-irrefl}
+use native.Mathlib.Nat.{lt-of-not-le, lt-irrefl}
 use native.Mathlib.Omega.{arith}
 use borrow.Author.Tests.{eq-eqb, ne-eqb, eqb-true, eqb-false, leb-true, not-true}
 use lib.Dec.{eqb, leb}
-use lib.ListN.{length, drop-of-length-le}
-use Rattle.protocol.specs.Bytes.{pick, numberAt, whole}
-use Rattle.protocol.specs.Records.{u64At}
-use Rattle.protocol.proofs.Bytes.{whole-out}
+use lib.ListN.{length, drop, drop-of-length-le}
+use Rattle.protocol.specs.Bytes.{Bytes, over, put, pick, numberAt, whole}
+use Rattle.protocol.specs.Ids.{Id, STAT, STA2, LIST, LIS2, SEND, SND2, RECV, RCV2, DATA, DONE, OKAY, FAIL, DENT, DNT2, QUIT}
+use Rattle.protocol.specs.Records.{u32At, u64At}
+use Rattle.protocol.proofs.Bytes.{le4, whole-in, whole-out, put-in}
+use Rattle.protocol.proofs.Records.{u64-in}
+use Rattle.ids.specs.Ids.{lower, upper, numberOf}
 use Rattle.features.specs.Meaning.{listed}
 use Rattle.boundary.specs.Told.{outSize}
-use Rattle.record.specs.Fields.{bit, isOne, bits, bitsOf, stepNumbers, registers, fields, pendingOf, sessionOf, stepIn}
+use Rattle.record.specs.Fields.{stepNumbers, registers, fields, pendingOf, sessionOf, stepIn}
 use Rattle.record.specs.Record.{size, words, wordOf, stored, loaded}
-use Rattle.record.proofs.Words.{word-in}
+use Rattle.record.proofs.Numbers.{one-forth, bits-forth}
+use Rattle.record.proofs.Words.{word-in, length-words, words-append, numbersFrom, words-from}
 use Rattle.record_load.proofs.Held as H
 use Rattle.record_load.proofs.Held.{holds, held, unheld, held-size}
 use Rattle.recv_buf.specs.RecvBuf.{cursor}
@@ -27,14 +31,14 @@ use Rattle.session.specs.Core.{featuresFrom}
 use Rattle.session.specs.State.{at, begun, Fits}
 use Rattle.session.specs.declared.Pending.{Pending}
 use Rattle.session.specs.declared.Session.{Session}
-use Rattle.fast_record.specs.Standing.{numberIn, standing, idle, fits, Stands, movedNumbers}
+use Rattle.fast_record.specs.Standing.{numberIn, standing, idle, fits, Stands, placeOf, idsHeld, idsIn, movedNumbers}
 
 -- a number that the code reads, past the last too
 pub number-read : (rec : List ℕ) (i : ℕ) → length rec ≡ size → whole 8 0 (u64At 0) rec (8 * i) ≡ numberIn rec i
 unfolding numberAt numberIn
-number-read rec i h = rw (eq-eqb (length rec) size h) (go (decLe i 23))
+number-read rec i h = rw (eq-eqb (length rec) size h) (go (decLe i 31))
   where
-    go : Dec (i ≤ 23) → whole 8 0 (u64At 0) rec (8 * i) ≡ wordOf rec i
+    go : Dec (i ≤ 31) → whole 8 0 (u64At 0) rec (8 * i) ≡ wordOf rec i
     go (yes l) = word-in rec i (omega arith)
     go (no n) =
         let l = lt-of-not-le n in
@@ -71,6 +75,13 @@ module _ (rec : List ℕ) (x m : ℕ) where
         aside = omega (arith, n 0, n 1);
         msg = h .msg ∙ n 1;
       }
+
+  -- ... and has the record's ids
+  pub ids-held : Stands rec x m → s .ids ≡ idsHeld rec
+  unfolding sessionOf
+  ids-held h =
+      let n : (i : ℕ) → numberIn rec i ≡ wordOf rec i = λ i. number-in rec i (h .sized) in
+      rw (n 24, n 25, n 26, n 27, n 28, n 29, n 30, n 31)
 
   pub held-of : Stands rec x m → holds rec ≡ true
   held-of h =
@@ -157,18 +168,80 @@ module _ (rec : List ℕ) (x m : ℕ) where
       let (c, d) = and-eq-true-iff (standing (loaded rec) x m) (eqb n (numberIn rec 4)) .0 a in
       (stands-of c, eqb-true n (numberIn rec 4) d, leb-true outSize o b)
 
+-- ---- an id's number is half of one of the record's
+
+module _ (rec : List ℕ) (l : length rec ≡ size) (bytes : Bytes rec) where
+  abbrev four : ℕ → ℕ
+  four at = whole 4 0 (u32At 0) rec at
+
+  four-small : (at : ℕ) → at + 4 ≤ length rec → four at < 0x1_0000_0000
+  unfolding numberAt
+  four-small at h =
+      omega (arith, whole-in 4 0 (u32At 0) rec at h, le4 rec at h, bytes at, bytes (at + 1), bytes (at + 2), bytes (at + 3))
+
+  halves : (i : ℕ) → i ≤ 31 → numberIn rec i ≡ four (8 * i) + 0x1_0000_0000 * four (8 * i + 4)
+  halves i h = sym (number-read rec i l) ∙ u64-in rec (8 * i) (omega arith)
+
+  lower-at : (i : ℕ) → i ≤ 31 → four (8 * i) ≡ lower (numberIn rec i)
+  lower-at i h = omega (arith, halves i h, four-small (8 * i) (omega arith))
+
+  upper-at : (i : ℕ) → i ≤ 31 → four (8 * i + 4) ≡ upper (numberIn rec i)
+  upper-at i h = omega (arith, halves i h, four-small (8 * i) (omega arith))
+
+  pub id-at : (i : Id) → four (placeOf i) ≡ numberOf (idsHeld rec) i
+  id-at STAT = lower-at 24 (omega arith)
+  id-at STA2 = upper-at 24 (omega arith)
+  id-at LIST = lower-at 25 (omega arith)
+  id-at LIS2 = upper-at 25 (omega arith)
+  id-at SEND = lower-at 26 (omega arith)
+  id-at SND2 = upper-at 26 (omega arith)
+  id-at RECV = lower-at 27 (omega arith)
+  id-at RCV2 = upper-at 27 (omega arith)
+  id-at DATA = lower-at 28 (omega arith)
+  id-at DONE = upper-at 28 (omega arith)
+  id-at OKAY = lower-at 29 (omega arith)
+  id-at FAIL = upper-at 29 (omega arith)
+  id-at DENT = lower-at 30 (omega arith)
+  id-at DNT2 = upper-at 30 (omega arith)
+  id-at QUIT = lower-at 31 (omega arith)
+
+-- ... in a record of another length too
+module _ (rec : List ℕ) (f : length rec ≡ size → ⊥) where
+  other : (i : ℕ) → numberIn rec i ≡ 31
+  unfolding numberIn
+  other i = rw (ne-eqb (length rec) size f)
+
+  pub id-other : (i : Id) → pick (eqb (placeOf i % 8) 0) 31 0 ≡ numberOf (idsHeld rec) i
+  id-other STAT = rw (other 24)
+  id-other STA2 = rw (other 24)
+  id-other LIST = rw (other 25)
+  id-other LIS2 = rw (other 25)
+  id-other SEND = rw (other 26)
+  id-other SND2 = rw (other 26)
+  id-other RECV = rw (other 27)
+  id-other RCV2 = rw (other 27)
+  id-other DATA = rw (other 28)
+  id-other DONE = rw (other 28)
+  id-other OKAY = rw (other 29)
+  id-other FAIL = rw (other 29)
+  id-other DENT = rw (other 30)
+  id-other DNT2 = rw (other 30)
+  id-other QUIT = rw (other 31)
+
+-- ---- numbers put in front of the ids
+
+module _ (rec : List ℕ) (bytes : Bytes rec) where
+  pub ids-stay : (ns : List ℕ) → length ns ≡ 24 → length rec ≡ size → put rec 0 (words ns) ≡ words (ns ++ idsIn rec)
+  unfolding over numbersFrom
+  ids-stay ns e l =
+      let n : (i : ℕ) → numberIn rec i ≡ wordOf rec i = λ i. number-in rec i l in
+      let z : 0 + length (words ns) ≡ 8 * 24 = omega (arith, length-words ns) in
+      put-in rec 0 (words ns) (omega (arith, length-words ns))
+      ∙ ap (λ (k : ℕ). words ns ++ drop k rec) z
+      ∙ ap (λ (r : List ℕ). words ns ++ r) (words-from rec bytes 8 24 (omega arith))
+      ∙ sym (words-append ns (idsIn rec) ∙ rw (n 24, n 25, n 26, n 27, n 28, n 29, n 30, n 31))
+
 -- ---- a session's numbers are its record's again
-
-pub one-forth : (n : ℕ) → n < 2 → bit (isOne n) ≡ n
-one-forth zero h = refl
-one-forth (suc zero) h = refl
-one-forth (suc (suc n)) h = absurd (omega arith)
-
-bits-forth : (k n : ℕ) → n < 2 ^ k → bits (bitsOf k n) ≡ n
-bits-forth zero n h = omega arith
-bits-forth (suc k) n h =
-    let l : n < 2 * 2 ^ k = rw pow-succ' at h in
-    rw (one-forth (n % 2) (omega arith), bits-forth k (n / 2) (omega arith)) (omega arith)
 
 module _ (rec : List ℕ) (x m : ℕ) (h : Stands rec x m) where
   -- the session at another place, with another step
@@ -179,4 +252,4 @@ module _ (rec : List ℕ) (x m : ℕ) (h : Stands rec x m) where
       let n : (i : ℕ) → numberIn rec i ≡ wordOf rec i = λ i. number-in rec i (h .sized) in
       let f : wordOf rec 5 < 2 ^ 7 = omega (arith, n 5) in
       let b : wordOf rec 6 < 2 = omega (arith, n 6) in
-      rw (e, n 0, n 1, n 5, n 6, one-forth (wordOf rec 6) b, bits-forth 7 (wordOf rec 5) f)
+      rw (e, n 0, n 1, n 5, n 6, n 24, n 25, n 26, n 27, n 28, n 29, n 30, n 31, one-forth (wordOf rec 6) b, bits-forth 7 (wordOf rec 5) f)

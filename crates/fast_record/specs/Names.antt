@@ -41,6 +41,9 @@ PIECE = 11
 abbrev pub REGISTER : ℕ
 REGISTER = 12
 
+abbrev pub IDS : ℕ
+IDS = 24
+
 abbrev pub IDLE : ℕ
 IDLE = 0
 

@@ -3,9 +3,13 @@ ghost use mathlib.Core.Path.{_≡_};
 ghost use lib.Dec.{eqb};
 ghost use lib.ListN.{length};
 ghost use Rattle.protocol.specs.Bytes.{pick};
+ghost use Rattle.format_id.specs.Ids.{idOf};
+ghost use Rattle.ids.specs.Ids.{numberOf};
 ghost use Rattle.record.specs.Record.{size, words, loaded};
-ghost use Rattle.fast_record.specs.Standing.{numberIn, standing, idle, fits, movedNumbers, stepOf, plainStep};
+ghost use Rattle.fast_record.specs.Standing.{numberIn, standing, idle, fits, placeOf, idsHeld, movedNumbers, stepOf, plainStep};
 use boundary::REPLY;
+use format_id::SyncId;
+use format_number::u32_at;
 use format_number::u64_at;
 use record::CAPACITY;
 use record::ENDED;
@@ -22,7 +26,7 @@ use record::TAIL;
 use record_load::step_in;
 use record_store::put_four;
 
-// The i-th number of a record; 31, which is no state, where it is not 192 bytes long.
+// The i-th number of a record; 31, which is no state, where it is not 256 bytes long.
 pub fn number(rec: &[u8], i: u8) -> usize
     ensures { λ r. ⌜ r ≡ numberIn (now (rec .entry)) i ⌝ }
 {
@@ -31,6 +35,47 @@ pub fn number(rec: &[u8], i: u8) -> usize
     }
     STATES
 }
+
+// ---- its ids
+
+// Where a record has an id: four bytes for each, behind its other numbers.
+fn place(id: SyncId) -> usize
+    ensures { λ r. ⌜ r ≡ placeOf (idOf id) ⌝ }
+{
+    match id {
+        SyncId::Stat => 192,
+        SyncId::Sta2 => 196,
+        SyncId::List => 200,
+        SyncId::Lis2 => 204,
+        SyncId::Send => 208,
+        SyncId::Snd2 => 212,
+        SyncId::Recv => 216,
+        SyncId::Rcv2 => 220,
+        SyncId::Data => 224,
+        SyncId::Done => 228,
+        SyncId::Okay => 232,
+        SyncId::Fail => 236,
+        SyncId::Dent => 240,
+        SyncId::Dnt2 => 244,
+        SyncId::Quit => 248,
+    }
+}
+
+// The number of an id, by the table that a record holds. Each number of a record of another length is 31: so is its lower half.
+pub fn id_in(rec: &[u8], id: SyncId) -> u32
+    ensures { λ r. ⌜ r ≡ numberOf (idsHeld (now (rec .entry))) (idOf id) ⌝ }
+{
+    let at = place(id);
+    if rec.len() == SIZE {
+        return u32_at(rec, at);
+    }
+    if at % 8 == 0 {
+        return STATES as u32;
+    }
+    0
+}
+
+// ---- whether its session stands
 
 // Whether a record holds a session of buffers of these lengths that has not ended.
 pub fn stands(rec: &[u8], rx: usize, msg: usize) -> bool
@@ -99,8 +144,10 @@ pub fn fits(rec: &[u8], rx: usize, msg: usize, lent: usize, out: usize) -> bool
     false
 }
 
-// The session at another place of its buffer, with so many bytes lent and a pending step of these numbers, into its record; a record of
-// another length is left alone.
+// ---- its session at another place
+
+// The session at another place of its buffer, with so many bytes lent and a pending step of these numbers, into its record, its ids as they were; a record
+// of another length is left alone.
 pub fn store_step(
     rec: &mut [u8],
     head: usize,

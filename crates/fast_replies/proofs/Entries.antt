@@ -6,9 +6,9 @@ use Prim.Native.Nat.{ℕ, _+_, _-_, _≤_, _<_}
 use native.Mathlib.Omega.{arith}
 use borrow.Author.Tests.{le-leb, lt-leb}
 use lib.ListN.{length, take, drop}
-use Rattle.protocol.specs.Bytes.{same, whole, numberAt, put}
-use Rattle.protocol.specs.Ids.{letters}
-use Rattle.protocol.specs.Records.{Stat, Stat2, u32At, idAt, statAt, stat2At, dentAt, dent2At}
+use Rattle.protocol.specs.Bytes.{whole, numberAt, put}
+use Rattle.protocol.specs.Ids.{Dialect}
+use Rattle.protocol.specs.Records.{Stat, Stat2, u32At, statAt, stat2At, dentAt, dent2At}
 use Rattle.protocol.proofs.Bytes.{whole-in}
 use Rattle.boundary.specs.Told.{statWords, statV2Words, replyBytes}
 use Rattle.format_record.specs.Told.{toldStat, toldStat2, statOf, stat2Of, zeroStat, zeroStat2}
@@ -23,7 +23,7 @@ use Rattle.session.specs.declared.Reply.the-variants.{Told}
 use Rattle.session.specs.declared.Version.{Version}
 use Rattle.session.specs.declared.Version.the-variants.{V1, V2}
 use Rattle.fast_record.specs.Standing.{numberIn}
-use Rattle.fast_replies.specs.Direct.{heldIn, nameLengthOf, entryLength, entryTold}
+use Rattle.fast_replies.specs.Direct.{dialectHeld, heads, heldIn, nameLengthOf, entryLength, entryIn, entryTold}
 use Rattle.fast_replies.proofs.Whole.{whole-of}
 
 -- a number that the code reads
@@ -38,22 +38,22 @@ name-number V1 x = refl
 name-number V2 x = refl
 
 -- the cases of `entryLength`
-module _ (v : Version) (x : List ℕ) where
-  pub entry-short : length x < entrySizeOf v → 0 ≡ entryLength v x
+module _ (d : Dialect) (v : Version) (x : List ℕ) where
+  pub entry-short : length x < entrySizeOf v → 0 ≡ entryLength d v x
   unfolding entryLength
   entry-short h = rw (lt-leb (entrySizeOf v) (length x) h)
 
   module _ (there : entrySizeOf v ≤ length x) where
-    pub entry-other : same (idAt x) (letters (entryIdOf v)) ≡ false → 0 ≡ entryLength v x
+    pub entry-other : heads d (d .bytes (entryIdOf v)) x ≡ false → 0 ≡ entryLength d v x
     unfolding entryLength
     entry-other e = rw (le-leb (entrySizeOf v) (length x) there, e)
 
-    pub entry-cut : same (idAt x) (letters (entryIdOf v)) ≡ true → length x < entrySizeOf v + nameLengthOf v x → 0 ≡ entryLength v x
+    pub entry-cut : heads d (d .bytes (entryIdOf v)) x ≡ true → length x < entrySizeOf v + nameLengthOf v x → 0 ≡ entryLength d v x
     unfolding entryLength
     entry-cut e h = rw (le-leb (entrySizeOf v) (length x) there, e, lt-leb (entrySizeOf v + nameLengthOf v x) (length x) h)
 
-    pub entry-all : same (idAt x) (letters (entryIdOf v)) ≡ true → entrySizeOf v + nameLengthOf v x ≤ length x
-        → entrySizeOf v + nameLengthOf v x ≡ entryLength v x
+    pub entry-all : heads d (d .bytes (entryIdOf v)) x ≡ true → entrySizeOf v + nameLengthOf v x ≤ length x
+        → entrySizeOf v + nameLengthOf v x ≡ entryLength d v x
     unfolding entryLength
     entry-all e h = rw (le-leb (entrySizeOf v) (length x) there, e, le-leb (entrySizeOf v + nameLengthOf v x) (length x) h)
 
@@ -95,8 +95,8 @@ module _ (rx : List ℕ) (a b : ℕ) (o : a ≤ b) (i : b ≤ length rx) where
   pub held-count : length (heldBytes rx (cursor a b)) ≡ b - a
   held-count = held-length rx (cursor a b) sound
 
-pub entry-within : (rec rx : List ℕ) (v : Version) → numberIn rec 2 ≤ numberIn rec 3 → numberIn rec 3 ≤ length rx → 0 < entryLength v (heldIn rec rx)
-    → numberIn rec 2 + entryLength v (heldIn rec rx) ≤ numberIn rec 3
+pub entry-within : (rec rx : List ℕ) (v : Version) → numberIn rec 2 ≤ numberIn rec 3 → numberIn rec 3 ≤ length rx → 0 < entryIn rec rx v
+    → numberIn rec 2 + entryIn rec rx v ≤ numberIn rec 3
 entry-within rec rx v o i h =
-    let w = whole-of v (heldIn rec rx) h in
+    let w = whole-of (dialectHeld rec) v (heldIn rec rx) h in
     omega (arith, w .all, w .name, held-count rx (numberIn rec 2) (numberIn rec 3) o i)

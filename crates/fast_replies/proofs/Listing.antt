@@ -22,8 +22,8 @@ use Rattle.session.specs.declared.Version.{Version}
 use Rattle.session.specs.declared.Version.the-variants.{V1, V2}
 use Rattle.fast_record.specs.Standing.{numberIn, Stands}
 use Rattle.fast_record.proofs.Laws.{stands-in}
-use Rattle.fast_replies.specs.Direct.{tried, heldIn, entryLength, entryTold, entryVersion, entryDone, entryNow}
-use Rattle.fast_replies.proofs.Taken.{ses, good, held-same, head-same, tail-same, no-refusal, done-tried}
+use Rattle.fast_replies.specs.Direct.{tried, heldIn, entryIn, entryTold, entryVersion, entryDone, entryNow}
+use Rattle.fast_replies.proofs.Taken.{ses, good, held-same, head-same, tail-same, dialect-same, no-refusal, done-tried}
 use Rattle.fast_replies.proofs.Whole.{dropped, whole-entry}
 
 -- calls 12 and 13 are listing steps
@@ -50,14 +50,15 @@ number-told V2 x i = refl
 
 module _ (rec rx msg lent out : List ℕ) (h : Stands rec (length rx) (length msg)) (o : outSize ≤ length out) (idle : numberIn rec 7 ≡ 0) where
   -- the step, by the session's own definitions
-  entry-stepped : (v : Version) → 0 < entryLength v (heldIn rec rx)
-      → told (dropped (st (begun (ses rec rx msg h) (length lent)) rx msg) (entryLength v (heldIn rec rx))) (entryTold v (heldIn rec rx) (numberIn rec 2 + entrySizeOf v))
+  entry-stepped : (v : Version) → 0 < entryIn rec rx v
+      → told (dropped (st (begun (ses rec rx msg h) (length lent)) rx msg) (entryIn rec rx v)) (entryTold v (heldIn rec rx) (numberIn rec 2 + entrySizeOf v))
       ≡ entryCall (st (ses rec rx msg h) rx msg) v (length lent)
   unfolding entryCall
   entry-stepped v some =
       let e = held-same rec rx msg h in
-      rw (no-refusal rec rx msg h idle, e, head-same rec rx msg h)
-      (sym (whole-entry (st (begun (ses rec rx msg h) (length lent)) rx msg) (good rec rx msg h (length lent)) v false (rw e at some)))
+      let d = dialect-same rec rx msg h in
+      rw (no-refusal rec rx msg h idle, e, d, head-same rec rx msg h)
+      (sym (whole-entry (st (begun (ses rec rx msg h) (length lent)) rx msg) (good rec rx msg h (length lent)) v false (rw (e, d) at some)))
 
   pub entry-tried : (call a b : ℕ) → 12 ≤ call → call ≤ 13 → (t : Bool) (new told′ : List ℕ)
       → (t, new, told′) ≡ entryDone rec rx (length lent) (entryVersion call) out
@@ -68,8 +69,8 @@ module _ (rec rx msg lent out : List ℕ) (h : Stands rec (length rx) (length ms
       let x = heldIn rec rx in
       let i = numberIn rec 2 + entrySizeOf v in
       done-tried rec rx msg out h o (λ s. back rec out (callNumbered call a b s lent (requestNumbered call a b) (unknownCall s)))
-      (numberIn rec 2 + entryLength v x) (numberIn rec 3) (length lent) 0 _ Idle (Told (entryTold v x i)) refl (no-refusal-told v x i) (number-told v x i)
-      (ltb 0 (entryLength v x)) (entryNow rec rx msg call out) t new told′
+      (numberIn rec 2 + entryIn rec rx v) (numberIn rec 3) (length lent) 0 _ Idle (Told (entryTold v x i)) refl (no-refusal-told v x i) (number-told v x i)
+      (ltb 0 (entryIn rec rx v)) (entryNow rec rx msg call out) t new told′
       (rw (
         le-leb 12 call l,
         le-leb call 13 u,
@@ -77,11 +78,11 @@ module _ (rec rx msg lent out : List ℕ) (h : Stands rec (length rx) (length ms
         eq-eqb (numberIn rec 7) 0 idle,
         stands-in rec (length rx) (length msg) h,
       ))
-      (λ z. ap (back rec out) (place v ∙ entry-stepped v (ltb-true 0 (entryLength v x) z) ∙ called call a b (st (ses rec rx msg h) rx msg) lent l u))
+      (λ z. ap (back rec out) (place v ∙ entry-stepped v (ltb-true 0 (entryIn rec rx v) z) ∙ called call a b (st (ses rec rx msg h) rx msg) lent l u))
       e
     where
       place : (v : Version)
-          → S.out (stepped (at (begun (ses rec rx msg h) (length lent)) (cursor (numberIn rec 2 + entryLength v (heldIn rec rx)) (numberIn rec 3)) Idle)
+          → S.out (stepped (at (begun (ses rec rx msg h) (length lent)) (cursor (numberIn rec 2 + entryIn rec rx v) (numberIn rec 3)) Idle)
           (Told (entryTold v (heldIn rec rx) (numberIn rec 2 + entrySizeOf v)))) rx msg
-          ≡ told (dropped (st (begun (ses rec rx msg h) (length lent)) rx msg) (entryLength v (heldIn rec rx))) (entryTold v (heldIn rec rx) (numberIn rec 2 + entrySizeOf v))
+          ≡ told (dropped (st (begun (ses rec rx msg h) (length lent)) rx msg) (entryIn rec rx v)) (entryTold v (heldIn rec rx) (numberIn rec 2 + entrySizeOf v))
       place v = rw (head-same rec rx msg h, tail-same rec rx msg h)

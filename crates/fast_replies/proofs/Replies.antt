@@ -15,7 +15,7 @@ use Rattle.record.specs.Record.{wordOf}
 use Rattle.recv_buf.specs.RecvBuf.{cursor, heldBytes}
 use Rattle.session.specs.Phases.{statSizeOf}
 use Rattle.session.specs.State as S
-use Rattle.session.specs.State.{St, stepped, at, begun}
+use Rattle.session.specs.State.{dialectIn, St, stepped, at, begun}
 use Rattle.session.specs.Steps.{readOn}
 use Rattle.session.specs.Sends.{told}
 use Rattle.session.specs.declared.Pending.the-variants.{Idle, Reading}
@@ -26,9 +26,9 @@ use Rattle.session.specs.declared.Version.the-variants.{V1, V2}
 use Rattle.session.specs.declared.Want.the-variants as W
 use Rattle.fast_record.specs.Standing.{numberIn, Stands}
 use Rattle.fast_record.proofs.Laws.{stands-in}
-use Rattle.fast_replies.specs.Direct.{tried, cameIn, metBy, isStat, statTold, statCame, statDone, statVersion, statNow}
+use Rattle.fast_replies.specs.Direct.{tried, dialectHeld, cameIn, metBy, isStat, statTold, statCame, statDone, statVersion, statNow}
 use Rattle.fast_replies.proofs.Arrivals.{Met, met-of, came, good-came, read-met}
-use Rattle.fast_replies.proofs.Taken.{ses, head-same, tail-same, lent-same, pending-at, done-tried}
+use Rattle.fast_replies.proofs.Taken.{ses, head-same, tail-same, dialect-same, lent-same, pending-at, done-tried}
 use Rattle.fast_replies.proofs.Whole.{dropped, whole-stat}
 
 -- a stat is no refusal, and its number is 0
@@ -50,13 +50,13 @@ module _ (rec rx msg lent out : List ℕ) (h : Stands rec (length rx) (length ms
       by V1 e = pending-at rec rx msg h 13 e
       by V2 e = pending-at rec rx msg h 14 e
 
-  module _ (k : ℕ) (m : Met rec rx k) (r : isStat v (cameIn rec rx k) ≡ true) where
+  module _ (k : ℕ) (m : Met rec rx k) (r : isStat (dialectHeld rec) v (cameIn rec rx k) ≡ true) where
     -- the session, once the bytes have come
     abbrev t : St
     t = came rec rx msg h k
 
-    stat-came : isStat v (heldBytes rx (t .ses .buf)) ≡ true
-    stat-came = rw (head-same rec rx msg h, tail-same rec rx msg h) at r
+    stat-came : isStat (dialectIn (t .ses)) v (heldBytes rx (t .ses .buf)) ≡ true
+    stat-came = rw (head-same rec rx msg h, tail-same rec rx msg h, dialect-same rec rx msg h) at r
 
     stat-stepped : told (dropped t (statSizeOf v)) (statTold v (heldBytes rx (t .ses .buf))) ≡ readOn t (Header (W.Stat v)) (isOne (wordOf rec 8))
     stat-stepped = sym (whole-stat t (good-came rec rx msg h k m) v (isOne (wordOf rec 8)) stat-came)
@@ -95,7 +95,7 @@ module _ (rec rx msg lent out : List ℕ) (h : Stands rec (length rx) (length ms
         version-of,
       ))
       (λ z.
-      let (a, r) = and-eq-true-iff (metBy rec rx k) (isStat v (cameIn rec rx k)) .0 z in
+      let (a, r) = and-eq-true-iff (metBy rec rx k) (isStat (dialectHeld rec) v (cameIn rec rx k)) .0 z in
       let m = met-of rec rx k a in
       read-met rec rx msg h lent same (Header (W.Stat v)) awaits k m out _ (place k m r ∙ stat-stepped k m r))
       e

@@ -6,9 +6,9 @@ use Prim.Native.Nat.{ℕ, _≤_, _<_}
 use native.Mathlib.Omega.{arith}
 use borrow.Author.Tests.{le-leb, lt-leb}
 use lib.ListN.{length, drop}
-use Rattle.protocol.specs.Bytes.{same, whole, numberAt, put}
-use Rattle.protocol.specs.Ids.{letters}
-use Rattle.protocol.specs.Records.{u32At, idAt, statAt, stat2At, stat2Body}
+use Rattle.protocol.specs.Bytes.{whole, numberAt, put}
+use Rattle.protocol.specs.Ids.{Dialect}
+use Rattle.protocol.specs.Records.{u32At, statAt, stat2At, stat2Body}
 use Rattle.boundary.specs.Told.{statWords, statV2Words, replyBytes}
 use Rattle.format_record.specs.Told.{toldStat, toldStat2, zeroStat, zeroStat2}
 use Rattle.format_record.specs.declared.StatV1.{StatV1}
@@ -18,7 +18,7 @@ use Rattle.session.specs.Phases.{statSizeOf, statIdOf}
 use Rattle.session.specs.declared.Reply.the-variants.{Told}
 use Rattle.session.specs.declared.Version.{Version}
 use Rattle.session.specs.declared.Version.the-variants.{V1, V2}
-use Rattle.fast_replies.specs.Direct.{errorless, isStat, statTold}
+use Rattle.fast_replies.specs.Direct.{heads, errorless, isStat, statTold}
 use Rattle.fast_replies.proofs.Entries.{v1-words, v2-words}
 
 -- the error stands behind the id
@@ -27,17 +27,17 @@ unfolding stat2Body numberAt
 error-number x = refl
 
 -- the cases of `isStat`
-module _ (v : Version) (x : List ℕ) where
-  pub stat-short : length x < statSizeOf v → false ≡ isStat v x
+module _ (d : Dialect) (v : Version) (x : List ℕ) where
+  pub stat-short : length x < statSizeOf v → false ≡ isStat d v x
   unfolding isStat
   stat-short h = rw (lt-leb (statSizeOf v) (length x) h)
 
   module _ (there : statSizeOf v ≤ length x) where
-    pub stat-other : same (idAt x) (letters (statIdOf v)) ≡ false → false ≡ isStat v x
+    pub stat-other : heads d (d .bytes (statIdOf v)) x ≡ false → false ≡ isStat d v x
     unfolding isStat
     stat-other e = rw (le-leb (statSizeOf v) (length x) there, e)
 
-    pub stat-fine : same (idAt x) (letters (statIdOf v)) ≡ true → errorless v x ≡ isStat v x
+    pub stat-fine : heads d (d .bytes (statIdOf v)) x ≡ true → errorless v x ≡ isStat d v x
     unfolding isStat
     stat-fine e = rw (le-leb (statSizeOf v) (length x) there, e)
 

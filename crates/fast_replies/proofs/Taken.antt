@@ -10,6 +10,7 @@ use lib.ListN.{length, getD}
 use Rattle.protocol.specs.Bytes.{pick, put}
 use Rattle.boundary.specs.Crossing.{Crossed, crossed, isRefusal, back, crossing}
 use Rattle.boundary.specs.Told.{replyNumber, replyBytes, outSize}
+use Rattle.ids.specs.Ids.{dialectOf}
 use Rattle.record.specs.Fields.{stepNumbers, pendings, sessionOf}
 use Rattle.record.specs.Record.{size, words, wordOf, stored}
 use Rattle.record_load.proofs.Held.{held}
@@ -18,14 +19,14 @@ use Rattle.session.proofs.Misfit.{fits-misfit}
 use Rattle.session.specs.Calls.{callRefusal, isIdle, refusalOf}
 use Rattle.session.specs.Reports.{reportRefusal, refusalAt}
 use Rattle.session.specs.State as S
-use Rattle.session.specs.State.{St, st, stepped, at, begun, Good}
+use Rattle.session.specs.State.{dialectIn, St, st, stepped, at, begun, Good}
 use Rattle.session.specs.declared.Pending.{Pending}
 use Rattle.session.specs.declared.Pending.the-variants.{Idle}
 use Rattle.session.specs.declared.Reply.{Reply}
 use Rattle.session.specs.declared.Session.{Session}
 use Rattle.fast_record.specs.Standing.{numberIn, Stands, movedNumbers}
-use Rattle.fast_record.proofs.Laws.{number-in, held-of, fits-of, stored-moved}
-use Rattle.fast_replies.specs.Direct.{heldIn, tried, done, written}
+use Rattle.fast_record.proofs.Laws.{number-in, held-of, fits-of, ids-held, stored-moved}
+use Rattle.fast_replies.specs.Direct.{heldIn, dialectHeld, tried, done, written}
 
 -- a step that is not taken
 pub not-tried : (b : Bool) (step same : Crossed) → b ≡ false → (false, same) ≡ tried b step same
@@ -67,6 +68,9 @@ module _ (rec rx msg : List ℕ) (h : Stands rec (length rx) (length msg)) where
   pub head-same : numberIn rec 2 ≡ ses .buf .head
   unfolding sessionOf
   head-same = number-in rec 2 (h .sized)
+
+  pub dialect-same : dialectHeld rec ≡ dialectIn ses
+  dialect-same = ap dialectOf (sym (ids-held rec (length rx) (length msg) h))
 
   pub lent-same : numberIn rec 4 ≡ ses .lent
   unfolding sessionOf

@@ -2,16 +2,17 @@
 -- and that it then comes to what the crossing comes to.
 -- Assumes nothing.
 use Prim.Native.Nat.{ℕ, _+_, _-_}
-use mathlib.Core.Bool.{Bool, true, false, _&&_}
+use mathlib.Core.Bool.{Bool, true, false, not, _&&_}
 use mathlib.Core.List.{List}
 use lib.Dec.{eqb, ltb, leb}
 use lib.ListN.{length}
 use Rattle.protocol.specs.Bytes.{pick, same, put}
-use Rattle.protocol.specs.Ids.{letters}
+use Rattle.protocol.specs.Ids.{Dialect, FAIL}
 use Rattle.protocol.specs.Records.{idAt, statAt, stat2At, dentAt, dent2At}
 use Rattle.boundary.specs.Crossing.{Crossed, crossed}
 use Rattle.boundary.specs.Told.{replyBytes}
 use Rattle.format_record.specs.Told.{statOf, stat2Of}
+use Rattle.ids.specs.Ids.{dialectOf}
 use Rattle.record.specs.Record.{words}
 use Rattle.recv_buf.specs.RecvBuf.{cursor, heldBytes}
 use Rattle.session.specs.Phases.{statSizeOf, entrySizeOf, statIdOf, entryIdOf}
@@ -22,7 +23,7 @@ use Rattle.session.specs.declared.Reply.the-variants.{Told}
 use Rattle.session.specs.declared.Version.{Version}
 use Rattle.session.specs.declared.Version.the-variants.{V1, V2}
 use Rattle.fast_record.specs.Names.{HEAD, TAIL, LENT, STATE, UNTIL, IDLE, STAT-HEADER, STAT-V2-HEADER}
-use Rattle.fast_record.specs.Standing.{numberIn, idle, fits, movedNumbers, plainStep}
+use Rattle.fast_record.specs.Standing.{numberIn, idle, fits, idsHeld, movedNumbers, plainStep}
 
 -- taken, with what it comes to; or not taken, and all as it was
 unfoldable pub tried : Bool → Crossed → Crossed → Bool × Crossed
@@ -44,6 +45,14 @@ written false rec rx head tail lent step new r out = (false, rec, rx, out)
 abbrev pub heldIn : (rec rx : List ℕ) → List ℕ
 heldIn rec rx = heldBytes rx (cursor (numberIn rec HEAD) (numberIn rec TAIL))
 
+-- the ids that its session goes by
+abbrev pub dialectHeld : List ℕ → Dialect
+dialectHeld rec = dialectOf (idsHeld rec)
+
+-- a header of these bytes at the front of x; where FAIL has the same it is a FAIL's
+unfoldable pub heads : Dialect → (id x : List ℕ) → Bool
+heads d id x = leb 8 (length x) && not (same (idAt x) (d .bytes FAIL)) && same (idAt x) id
+
 -- ---- a listing step whose entry is held whole
 
 abbrev pub nameLengthOf : Version → List ℕ → ℕ
@@ -51,9 +60,9 @@ nameLengthOf V1 x = dentAt x .namelen
 nameLengthOf V2 x = dent2At x .namelen
 
 -- how many bytes the entry at the front of x takes, its name included; 0 where it is not whole
-unfoldable pub entryLength : Version → List ℕ → ℕ
-entryLength v x =
-    pick (leb (entrySizeOf v) (length x) && same (idAt x) (letters (entryIdOf v)) && leb (entrySizeOf v + nameLengthOf v x) (length x))
+unfoldable pub entryLength : Dialect → Version → List ℕ → ℕ
+entryLength d v x =
+    pick (leb (entrySizeOf v) (length x) && heads d (d .bytes (entryIdOf v)) x && leb (entrySizeOf v + nameLengthOf v x) (length x))
     (entrySizeOf v + nameLengthOf v x)
     0
 
@@ -62,10 +71,14 @@ abbrev pub entryTold : Version → List ℕ → ℕ → Answer
 entryTold V1 x at = A.EntryV1 (statOf (dentAt x .stat)) at (dentAt x .namelen)
 entryTold V2 x at = A.EntryV2 (stat2Of (dent2At x .stat)) at (dent2At x .namelen)
 
+-- ... of the entry that a record's session holds
+abbrev pub entryIn : (rec rx : List ℕ) → Version → ℕ
+entryIn rec rx v = entryLength (dialectHeld rec) v (heldIn rec rx)
+
 -- the record and the reply, where the entry is whole
 abbrev pub entryDone : (rec rx : List ℕ) → (lent : ℕ) → Version → (out : List ℕ) → Bool × List ℕ × List ℕ
 entryDone rec rx lent v out =
-    done (ltb 0 (entryLength v (heldIn rec rx))) rec (numberIn rec HEAD + entryLength v (heldIn rec rx)) (numberIn rec TAIL) lent (plainStep IDLE 0)
+    done (ltb 0 (entryIn rec rx v)) rec (numberIn rec HEAD + entryIn rec rx v) (numberIn rec TAIL) lent (plainStep IDLE 0)
     (Told (entryTold v (heldIn rec rx) (numberIn rec HEAD + entrySizeOf v))) out
 
 -- calls 12 and 13
@@ -74,7 +87,7 @@ entryVersion call = pick (eqb call 12) V1 V2
 
 abbrev pub entryNow : (rec rx msg : List ℕ) → (call : ℕ) → (out : List ℕ) → Bool
 entryNow rec rx msg call out =
-    leb 12 call && leb call 13 && idle rec (length rx) (length msg) (length out) && ltb 0 (entryLength (entryVersion call) (heldIn rec rx))
+    leb 12 call && leb call 13 && idle rec (length rx) (length msg) (length out) && ltb 0 (entryIn rec rx (entryVersion call))
 
 -- ---- a read that completes a stat's reply
 
@@ -84,8 +97,8 @@ errorless V1 x = true
 errorless V2 x = eqb (stat2At x .error) 0
 
 -- a stat's reply at the front of x
-unfoldable pub isStat : Version → List ℕ → Bool
-isStat v x = leb (statSizeOf v) (length x) && same (idAt x) (letters (statIdOf v)) && errorless v x
+unfoldable pub isStat : Dialect → Version → List ℕ → Bool
+isStat d v x = leb (statSizeOf v) (length x) && heads d (d .bytes (statIdOf v)) x && errorless v x
 
 abbrev pub statTold : Version → List ℕ → Answer
 statTold V1 x = A.StatV1 (statOf (statAt x))
@@ -101,7 +114,7 @@ metBy rec rx k = ltb 0 k && leb k (length rx - numberIn rec TAIL) && leb (number
 
 -- ... and with them a stat's reply
 abbrev pub statCame : (rec rx : List ℕ) → (k : ℕ) → Version → Bool
-statCame rec rx k v = metBy rec rx k && isStat v (cameIn rec rx k)
+statCame rec rx k v = metBy rec rx k && isStat (dialectHeld rec) v (cameIn rec rx k)
 
 -- the record and the reply then
 abbrev pub statDone : (rec rx : List ℕ) → (k : ℕ) → Version → (out : List ℕ) → Bool × List ℕ × List ℕ

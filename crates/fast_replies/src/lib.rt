@@ -4,21 +4,25 @@ ghost use mathlib.Core.List.{List};
 ghost use mathlib.Core.Path.{_≡_};
 ghost use Prim.Native.Nat.{ℕ, _≤_};
 ghost use lib.ListN.{length};
-ghost use Rattle.protocol.specs.Bytes.{put};
+ghost use Rattle.protocol.specs.Bytes.{bytesOf, put};
 ghost use Rattle.boundary.specs.Crossing.{crossed, crossStart, crossRead};
 ghost use Rattle.boundary.specs.Told.{replyBytes, outSize};
 ghost use Rattle.record.specs.Record.{size};
-ghost use Rattle.session.specs.Phases.{statSizeOf, entrySizeOf};
+ghost use Rattle.ids.specs.Ids.{numberOf};
+ghost use Rattle.session.specs.Phases.{statSizeOf, entrySizeOf, statIdOf, entryIdOf};
 ghost use Rattle.session.specs.declared.Reply.the-variants.{Told};
-ghost use Rattle.fast_record.specs.Standing.{numberIn};
-ghost use Rattle.fast_replies.specs.Direct.{tried, nameLengthOf, entryLength, entryTold, entryVersion, entryDone, entryNow, errorless, isStat, statTold, statDone, statVersion, statNow};
+ghost use Rattle.fast_record.specs.Standing.{numberIn, idsHeld};
+ghost use Rattle.fast_replies.specs.Direct.{tried, dialectHeld, heads, nameLengthOf, entryLength, entryTold, entryVersion, entryDone, entryNow, errorless, isStat, statTold, statDone, statVersion, statNow};
 use boundary_reply::put_stat;
 use boundary_reply::put_stat_v2;
 use fast_record::fits;
+use fast_record::id_in;
 use fast_record::is_idle;
 use fast_record::number;
 use fast_record::store_plain;
+use format_id::SyncId;
 use format_number::u32_at;
+use format_record::HEADER_SIZE;
 use format_record::stat_v1_at;
 use format_record::stat_v2_at;
 use record::HEAD;
@@ -30,22 +34,43 @@ use record::STATE;
 use record::TAIL;
 use record::UNTIL;
 use session::Version;
-use session_phases::entry_id;
 use session_phases::entry_size;
-use session_phases::stat_id;
 use session_phases::stat_size;
+
+// Whether x begins with a header of this number. Where a record's table has the same for FAIL it does not: FAIL goes first.
+pub fn heads(rec: &[u8], id: u32, x: &[u8]) -> bool
+    ensures { λ r. ⌜ r ≡ heads (dialectHeld (now (rec .entry))) (bytesOf 4 id) (now (x .entry)) ⌝ }
+{
+    if x.len() < HEADER_SIZE {
+        return false;
+    }
+    let n = u32_at(x, 0);
+    if n == id_in(rec, SyncId::Fail) {
+        return false;
+    }
+    n == id
+}
 
 // ---- a listing step whose entry is held whole
 
+fn entry_number(rec: &[u8], v: Version) -> u32
+    ensures { λ r. ⌜ r ≡ numberOf (idsHeld (now (rec .entry))) (entryIdOf v) ⌝ }
+{
+    match v {
+        Version::V1 => id_in(rec, SyncId::Dent),
+        Version::V2 => id_in(rec, SyncId::Dnt2),
+    }
+}
+
 // How many bytes the entry at the front of x takes, its name included; 0 where it is not whole.
-fn entry_len(x: &[u8], v: Version) -> usize
-    ensures { λ r. ⌜ r ≡ entryLength v (now (x .entry)) ⌝ }
+fn entry_len(rec: &[u8], x: &[u8], v: Version) -> usize
+    ensures { λ r. ⌜ r ≡ entryLength (dialectHeld (now (rec .entry))) v (now (x .entry)) ⌝ }
 {
     let size = entry_size(v);
     if x.len() < size {
         return 0;
     }
-    if u32_at(x, 0) == entry_id(v) {
+    if heads(rec, entry_number(rec, v), x) {
         let name_at = size - 4;
         let name = u32_at(x, name_at) as usize;
         let left = x.len() - size;
@@ -76,7 +101,7 @@ fn entry_at(rec: &mut [u8], rx: &[u8], lent: usize, v: Version, out: &mut [u8]) 
     let head = number(rec, HEAD);
     let tail = number(rec, TAIL);
     let x = &rx[head..tail];
-    let n = entry_len(x, v);
+    let n = entry_len(rec, x, v);
     if n == 0 {
         return false;
     }
@@ -116,6 +141,15 @@ pub fn entry(rec: &mut [u8], rx: &[u8], msg: &[u8], lent: &[u8], call: u32, out:
 
 // ---- a read that completes a stat's reply
 
+fn stat_number(rec: &[u8], v: Version) -> u32
+    ensures { λ r. ⌜ r ≡ numberOf (idsHeld (now (rec .entry))) (statIdOf v) ⌝ }
+{
+    match v {
+        Version::V1 => id_in(rec, SyncId::Stat),
+        Version::V2 => id_in(rec, SyncId::Sta2),
+    }
+}
+
 // A stat of version 2 can carry an error instead.
 fn errorless(x: &[u8], v: Version) -> bool
     requires { ⌜ statSizeOf v ≤ length (now x) ⌝ }
@@ -128,13 +162,13 @@ fn errorless(x: &[u8], v: Version) -> bool
 }
 
 // Whether x begins with a stat's reply.
-fn is_stat(x: &[u8], v: Version) -> bool
-    ensures { λ r. ⌜ r ≡ isStat v (now (x .entry)) ⌝ }
+fn is_stat(rec: &[u8], x: &[u8], v: Version) -> bool
+    ensures { λ r. ⌜ r ≡ isStat (dialectHeld (now (rec .entry))) v (now (x .entry)) ⌝ }
 {
     if x.len() < stat_size(v) {
         return false;
     }
-    if u32_at(x, 0) == stat_id(v) {
+    if heads(rec, stat_number(rec, v), x) {
         return errorless(x, v);
     }
     false
@@ -170,7 +204,7 @@ fn stat_at(rec: &mut [u8], rx: &[u8], count: usize, v: Version, out: &mut [u8]) 
         return false;
     }
     let x = &rx[head..end];
-    if is_stat(x, v) {
+    if is_stat(rec, x, v) {
         let lent = number(rec, LENT);
         let next = head + stat_size(v);
         tell_stat(out, v, x);

@@ -1,6 +1,6 @@
 -- A call that carries a path alone and is started at once: this is its crossing. First the five calls, then any of them. Assumes nothing.
 use mathlib.Core.Bool.{Bool, true, false, true≢false}
-use mathlib.Core.List.{List, append-nil}
+use mathlib.Core.List.{List, _++_, append-nil}
 use mathlib.Core.Option.{Option, none, some}
 use mathlib.Core.Path.{_≡_, refl, sym, ap, _∙_}
 use Prim.Native.Nat.{ℕ, zero, suc, _+_, _-_, _≤_}
@@ -10,9 +10,11 @@ use lib.ListN.{length}
 use Rattle.protocol.specs.Answers.{Answer}
 use Rattle.protocol.specs.Bytes.{put}
 use Rattle.protocol.specs.Refusal.{isNone, pathRefusal, featureRefusal, askFeature, requestRefusal}
-use Rattle.protocol.specs.Ids.{published}
-use Rattle.protocol.specs.Messages.{PathOnly, stat, sta2, list, lis2, recv, pathId, ask, messageOf, bytesOfRequest}
+use Rattle.protocol.specs.Ids.{Table, under, published}
+use Rattle.protocol.specs.Messages.{PathOnly, stat, sta2, list, lis2, recv, pathId, ask, word, messageOf, bytesOfRequest}
 use Rattle.protocol.proofs.Bytes.{putLength-in}
+use Rattle.ids.specs.Ids.{numberOf, tableOf, dialectOf}
+use Rattle.ids.specs.declared.Ids.{Ids}
 use Rattle.boundary.specs.Boundary.{askNumber}
 use Rattle.boundary.specs.Crossing.{crossed, back, requestNumbered, callNumbered, unknownCall, crossStart}
 use Rattle.boundary.specs.Told.{replyNumber, outSize}
@@ -20,7 +22,7 @@ use Rattle.fast_replies.specs.Direct.{tried}
 use Rattle.fast_replies.proofs.Taken.{ses, head-same, tail-same, no-refusal, written-tried}
 use Rattle.features.specs.Meaning.{listed}
 use Rattle.request_message.proofs.Laws.{front-bytes}
-use Rattle.request_message.specs.Composed.{placed}
+use Rattle.request_message.specs.Composed.{only, placed}
 use Rattle.record.specs.Fields.{bitsOf, stepNumbers, sessionOf}
 use Rattle.record.specs.Record.{wordOf}
 use Rattle.recv_buf.specs.RecvBuf.{cursor, heldCount, compacted}
@@ -28,17 +30,17 @@ use Rattle.recv_buf.specs.declared.RecvBuf.{RecvBuf}
 use Rattle.recv_buf.proofs.Laws.{Sound, compacted-head, compacted-length}
 use Rattle.request.specs.Meaning.{meant}
 use Rattle.session_messages.proofs.Laws.{carried-all}
-use Rattle.session_sender.proofs.Laws.{whole-out}
+use Rattle.session_sender.proofs.Laws.{bytes-own, whole-out}
 use Rattle.session.specs.Calls.{settingOf, startCall}
 use Rattle.session.specs.Core.{askOf, featuresFrom}
 use Rattle.session.specs.State as S
-use Rattle.session.specs.State.{St, st, Half, half, beside, stepped, at, begun}
-use Rattle.session.specs.Sends.{isData, carried, messageOut, sent}
+use Rattle.session.specs.State.{dialectIn, St, st, Half, half, beside, stepped, at, begun}
+use Rattle.session.specs.Sends.{isData, carried, idFor, messageOut, sent}
 use Rattle.session.specs.declared.Pending.the-variants.{Writing}
 use Rattle.session.specs.declared.Reply.the-variants as R
 use Rattle.session.specs.declared.Session.{Session}
-use Rattle.fast_record.specs.Standing.{numberIn, Stands, plainStep}
-use Rattle.fast_record.proofs.Laws.{number-in, fits-of, stands-in}
+use Rattle.fast_record.specs.Standing.{numberIn, idsHeld, Stands, plainStep}
+use Rattle.fast_record.proofs.Laws.{number-in, fits-of, ids-held, stands-in}
 use Rattle.fast_request.specs.Starting.{pathOf, offered, isPath, heldCountIn, askFits, askedIn, askDone, askNow}
 
 -- ---- the five
@@ -104,9 +106,16 @@ none-of : (o : Option Answer) → isNone o ≡ true → o ≡ none
 none-of none e = refl
 none-of (some a) e = absurd (true≢false (sym e))
 
-ask-long : (i : PathOnly) (path : List ℕ) → length (bytesOfRequest published (ask i path)) ≡ 8 + length path
+-- the limit for paths is the same under every table
+path-under : (t : Table) (path : List ℕ) → pathRefusal (under t) path ≡ pathRefusal published path
+unfolding pathRefusal
+path-under t path = refl
+
+ask-long : (t : Ids) (i : PathOnly) (path : List ℕ) → length (bytesOfRequest (dialectOf t) (ask i path)) ≡ 8 + length path
 unfolding bytesOfRequest messageOf
-ask-long i path = rw append-nil (front-bytes (pathId i) (length path) path)
+ask-long t i path =
+    let n = numberOf t (pathId i) in
+    ap (λ (l : List ℕ). length (word n ++ word (length path) ++ l)) (append-nil path) ∙ front-bytes n (length path) path
 
 -- a message that fits goes out whole
 module _ (i : PathOnly) (s : Session) (rx path : List ℕ) (h : Sound rx (s .buf)) (fits : 8 + length path ≤ length rx - heldCount (s .buf)) where
@@ -117,20 +126,20 @@ module _ (i : PathOnly) (s : Session) (rx path : List ℕ) (h : Sound rx (s .buf
   n = heldCount (s .buf)
 
   abbrev m : List ℕ
-  m = bytesOfRequest published (ask i path)
+  m = bytesOfRequest (dialectIn s) (ask i path)
 
   front : (b, cursor 0 n) ≡ compacted rx (s .buf)
   front = ap (λ (c : RecvBuf). (b, c)) (sym (compacted-head rx (s .buf) h))
 
-  whole : (put b n m, 8 + length path) ≡ placed b n (bytesOfRequest published (meant (askOf i) path))
+  whole : (put b n m, 8 + length path) ≡ placed b n (bytesOfRequest (only (idFor s (askOf i))) (meant (askOf i) path))
   whole =
-      let l = ask-long i path in
+      let l = ask-long (s .ids) i path in
       let k = compacted-length rx (s .buf) h in
-      rw (means i path, putLength-in b n m (omega (arith, h .ordered, h .within)), l)
+      rw (bytes-own (s .ids) (askOf i) path, means i path, putLength-in b n m (omega (arith, h .ordered, h .within)), l)
 
   message-whole : half (stepped (at s (cursor 0 n) (Writing (askOf i) 0 0)) (R.WriteRx n (8 + length path))) (put b n m) ≡ sent s rx (askOf i) 0 (carried (askOf i) 0 path)
   message-whole =
-      whole-out s rx (askOf i) 0 path b (cursor 0 n) front (put b n m) (8 + length path) whole (λ e. omega arith)
+      whole-out s rx (askOf i) 0 path b (cursor 0 n) front (idFor s (askOf i)) refl (put b n m) (8 + length path) whole (λ e. omega arith)
       ∙ goes-out i s rx path
       ∙ ap (λ (p : List ℕ). sent s rx (askOf i) 0 p) (carried-all (askOf i) 0 path (no-data i))
 
@@ -143,30 +152,33 @@ module _ (rec rx msg lent : List ℕ) (h : Stands rec (length rx) (length msg)) 
   allowed : requestRefusal (settingOf s) (meant (askOf i) lent) ≡ none
   unfolding requestRefusal sessionOf
   allowed =
-      rw (means i lent, none-of (pathRefusal published lent) path)
+      rw (means i lent, path-under (tableOf (s .ids)) lent, none-of (pathRefusal published lent) path)
       (feature-there i (wordOf rec 5) (ap (λ (j : ℕ). offered j (askNumber i)) (sym (number-in rec 5 (h .sized))) ∙ there))
 
   sound : Sound rx (s .buf)
   sound = let g = fits-of rec (length rx) (length msg) h in record { ordered = g .order; within = omega (arith, g .inside, g .rx) }
 
   -- what the step leaves, and that this is the session's own
-  abbrev left : (head tail : ℕ) → S.Out
-  left head tail =
+  abbrev left : Ids → (head tail : ℕ) → S.Out
+  left t head tail =
       S.out (stepped (at (begun s (length lent)) (cursor 0 (tail - head)) (Writing (askOf i) 0 0)) (R.WriteRx (tail - head) (8 + length lent)))
-      (put (compacted rx (cursor head tail) .0) (tail - head) (bytesOfRequest published (ask i lent))) msg
+      (put (compacted rx (cursor head tail) .0) (tail - head) (bytesOfRequest (dialectOf t) (ask i lent))) msg
 
-  started : 8 + length lent ≤ length rx - heldCount (s .buf) → left (s .buf .head) (s .buf .tail) ≡ startCall (st s rx msg) (askOf i) lent
+  started : 8 + length lent ≤ length rx - heldCount (s .buf) → left (s .ids) (s .buf .head) (s .buf .tail) ≡ startCall (st s rx msg) (askOf i) lent
   unfolding startCall
   started fits =
       rw (no-refusal rec rx msg h idle, allowed)
       (ap (λ (p : Half). beside p msg) (message-whole i (begun s (length lent)) rx lent sound fits))
 
-  steps : askFits rec rx lent ≡ true → left (numberIn rec 2) (numberIn rec 3) ≡ startCall (st s rx msg) (askOf i) lent
+  steps : askFits rec rx lent ≡ true → left (idsHeld rec) (numberIn rec 2) (numberIn rec 3) ≡ startCall (st s rx msg) (askOf i) lent
   steps z =
       let f = leb-true (8 + length lent) (length rx - heldCountIn rec) z in
       let j = head-same rec rx msg h in
       let k = tail-same rec rx msg h in
-      ap (λ (n : ℕ). left n (numberIn rec 3)) j ∙ ap (λ (n : ℕ). left (s .buf .head) n) k ∙ started (omega arith)
+      ap (λ (t : Ids). left t (numberIn rec 2) (numberIn rec 3)) (sym (ids-held rec (length rx) (length msg) h))
+      ∙ ap (λ (n : ℕ). left (s .ids) n (numberIn rec 3)) j
+      ∙ ap (λ (n : ℕ). left (s .ids) (s .buf .head) n) k
+      ∙ started (omega arith)
 
 module _ (rec rx msg lent out : List ℕ) (h : Stands rec (length rx) (length msg)) (o : outSize ≤ length out) (idle : numberIn rec 7 ≡ 0)
     (path : isPath lent ≡ true) where
@@ -181,7 +193,7 @@ module _ (rec rx msg lent out : List ℕ) (h : Stands rec (length rx) (length ms
       written-tried rec rx msg out h o (λ s. back rec out (callNumbered call a b s lent (requestNumbered call a b) (unknownCall s)))
       0 held (length lent) 2 (plainStep call 0) (Writing (askOf i) 0 0) (R.WriteRx held (8 + length lent))
       (step-of i ∙ ap (λ (k : ℕ). plainStep k 0) (sym n)) refl refl
-      (askedIn rx (numberIn rec 2) (numberIn rec 3) call lent) (askFits rec rx lent) (askNow rec rx msg lent call out) t rec′ rx′ told
+      (askedIn rec rx (numberIn rec 2) (numberIn rec 3) call lent) (askFits rec rx lent) (askNow rec rx msg lent call out) t rec′ rx′ told
       (rw (
         le-leb 1 call l,
         le-leb call 5 u,

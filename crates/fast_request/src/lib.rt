@@ -11,6 +11,7 @@ ghost use Rattle.record.specs.Record.{size};
 ghost use Rattle.fast_record.specs.Standing.{numberIn};
 ghost use Rattle.fast_request.specs.Starting.{pathOf, offered, isPath, askedIn, askDone, askNow};
 use boundary_reply::put_two;
+use fast_record::id_in;
 use fast_record::is_idle;
 use fast_record::number;
 use fast_record::store_plain;
@@ -56,12 +57,12 @@ fn is_path(path: &[u8]) -> bool
     number == 0
 }
 
-// The held bytes to the front, and the message behind them.
-fn put_request(rx: &mut [u8], head: usize, tail: usize, call: u32, path: &[u8])
+// The held bytes to the front, and the message behind them, its id by the record.
+fn put_request(rec: &[u8], rx: &mut [u8], head: usize, tail: usize, call: u32, path: &[u8])
     requires { ⌜ (head ≤ tail) × (tail ≤ length (now rx)) ⌝ }
-    ensures { λ _. ⌜ now (rx .exit) ≡ askedIn (now (rx .entry)) head tail call (now (path .entry)) ⌝ }
+    ensures { λ _. ⌜ now (rx .exit) ≡ askedIn (now (rec .entry)) (now (rx .entry)) head tail call (now (path .entry)) ⌝ }
 {
-    let id = path_id(call);
+    let id = id_in(rec, path_id(call));
     let held = tail - head;
     RecvBuf { head, tail }.compact(rx);
     compose_lent(&mut rx[held..], id, path);
@@ -80,7 +81,7 @@ fn write(rec: &mut [u8], rx: &mut [u8], lent: &[u8], call: u32, out: &mut [u8]) 
     if room < n {
         return false;
     }
-    put_request(rx, head, tail, call, lent);
+    put_request(rec, rx, head, tail, call, lent);
     put_two(out, held as u64, n as u64);
     store_plain(rec, 0, held, lent.len(), call as usize, 0);
     true

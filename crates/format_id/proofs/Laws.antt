@@ -11,10 +11,9 @@ use lib.Dec.{eqb}
 use lib.ListN.{length}
 use lib.Seq.{take-all}
 use Rattle.protocol.specs.Bytes.{pick, Bytes, le, same, numberAt, whole}
-use Rattle.protocol.specs.Ids.{Sound, Id, Dialect, all, letters, published, among, named}
+use Rattle.protocol.specs.Ids.{Id, Dialect, all, letters, published, among, named}
 use Rattle.protocol.specs.Records.{u32At}
 use Rattle.protocol.proofs.Bytes.{bytesOf-le, same-refl, same-eq, whole-in}
-use Rattle.protocol.proofs.Ids.{published-sound}
 
 -- as many bytes that spell the same number are the same
 le-eq : (a b : List ℕ) → length a ≡ length b → Bytes a → Bytes b → le a ≡ le b → a ≡ b
@@ -25,7 +24,8 @@ abbrev pub byNumber : Dialect → List Id → ℕ → Option Id
 byNumber d [] n = none
 byNumber d (i ∷ is) n = pick (eqb n (le (d .bytes i))) (some i) (byNumber d is n)
 
-module _ (d : Dialect) (sound : Sound d) (b : List ℕ) (four : length b ≡ 4) (bytes : Bytes b) where
+-- where each id is four bytes, be they apart or not
+module _ (d : Dialect) (fours : (i : Id) → length (d .bytes i) ≡ 4) (octets : (i : Id) → Bytes (d .bytes i)) (b : List ℕ) (four : length b ≡ 4) (bytes : Bytes b) where
   among-number : (is : List Id) → among d is b ≡ byNumber d is (le b)
   among-number [] = refl
   among-number (i ∷ is) = go (among-number is) (ℕ-discrete (le b) (le (d .bytes i)))
@@ -36,7 +36,7 @@ module _ (d : Dialect) (sound : Sound d) (b : List ℕ) (four : length b ≡ 4) 
 
       go : among d is b ≡ byNumber d is (le b) → Dec (le b ≡ le (d .bytes i)) → among d (i ∷ is) b ≡ byNumber d (i ∷ is) (le b)
       go rest (yes h) =
-          let e = le-eq (d .bytes i) b (sound .four i ∙ sym four) (sound .bytes i) bytes (sym h) in
+          let e = le-eq (d .bytes i) b (fours i ∙ sym four) (octets i) bytes (sym h) in
           rw (eq-eqb _ _ h, e, same-refl b)
       go rest (no f) = rw (ne-eqb _ _ f, other f (same (d .bytes i) b) refl, rest)
 

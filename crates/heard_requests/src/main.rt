@@ -1,8 +1,9 @@
-// Prints the requests of a stream that a host wrote, however long it is: where each starts, its id, what it carries (path and data in
-// hexadecimal). What can't be read ends it: 18 and its place; `more` and how many bytes are there of a request that the stream ends in; 13
+// Prints the requests of a stream that a host wrote, however long it is: where each starts, its published id, what it carries (path and data
+// in hexadecimal). What can't be read ends it: 18 and its place; `more` and how many bytes are there of a request that the stream ends in; 13
 // where a read failed.
 ghost use Prim.Native.Nat.{_≤_};
 ghost use lib.ListN.{length};
+use ids::Ids;
 use libc::STDIN_FILENO;
 use libc::STDOUT_FILENO;
 use recv_buf::Hold;
@@ -116,8 +117,8 @@ fn print_request(q: Request, part: &[u8]) {
 }
 
 // The request at the front of a stream.
-fn print_next(at: u64, rest: &[u8]) -> Printed {
-    let read = read_request(rest);
+fn print_next(ids: Ids, at: u64, rest: &[u8]) -> Printed {
+    let read = read_request(ids, rest);
     match read {
         Read::More => Printed {
             size: 0,
@@ -147,10 +148,10 @@ fn print_next(at: u64, rest: &[u8]) -> Printed {
 }
 
 // The whole requests at the front of a stream.
-fn print_all(at: u64, unread: &[u8]) -> Printed {
+fn print_all(ids: Ids, at: u64, unread: &[u8]) -> Printed {
     let mut done = 0;
     while done < unread.len() {
-        let next = print_next(wrapping_add_u64(at, done as u64), &unread[done..]);
+        let next = print_next(ids, wrapping_add_u64(at, done as u64), &unread[done..]);
         let size = next.size;
         let stopped = Printed {
             size: done,
@@ -206,9 +207,9 @@ fn came(at: u64, buf: RecvBuf, buffer: &mut [u8]) -> State {
 }
 
 // Prints what is whole and reads on: the bytes move to the front where the buffer is full.
-fn turn(s: State, buffer: &mut [u8]) -> State {
+fn turn(ids: Ids, s: State, buffer: &mut [u8]) -> State {
     let before = s.buf;
-    let printed = print_all(s.at, before.peek(buffer));
+    let printed = print_all(ids, s.at, before.peek(buffer));
     let at = wrapping_add_u64(s.at, printed.size as u64);
     let buf = before.take(printed.size);
     if printed.refused {
@@ -227,7 +228,7 @@ fn turn(s: State, buffer: &mut [u8]) -> State {
 }
 
 // A proved loop ends, and nothing says that a stream does: the turns are counted down from a number that no run uses up.
-fn print_stream(buffer: &mut [u8]) {
+fn print_stream(ids: Ids, buffer: &mut [u8]) {
     let mut turns = u64::MAX;
     let mut s = State {
         buf: RecvBuf::new(),
@@ -235,7 +236,7 @@ fn print_stream(buffer: &mut [u8]) {
         on: true,
     };
     while turns > 0 && s.on {
-        s = turn(s, buffer);
+        s = turn(ids, s, buffer);
         turns -= 1;
     }
 }
@@ -243,5 +244,5 @@ fn print_stream(buffer: &mut [u8]) {
 // Room for the longest request, a DATA of 65,544 bytes, and nearly as much again.
 fn main() {
     let mut buffer = [0u8; 131072];
-    print_stream(&mut buffer);
+    print_stream(Ids::published(), &mut buffer);
 }

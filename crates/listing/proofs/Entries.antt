@@ -132,7 +132,7 @@ module _ {c : ℕ} {target out₀ : List ℕ} {from : ℕ} {rx msg out : List �
       next-step =
           subst (λ (t : Told). Settled c (held (here .st)) t) (sym goes)
           (subst (λ (d : ℕ). Settled d (held (here .st)) (ended (entryCall (here .st) V1 0))) (w .step .size)
-          (next-settled (here .st) (w .step .good) (w .step .still) (w .step .live)))
+          (next-settled (here .st) (w .step .good) (w .step .still) (w .step .live) (w .step .own)))
 
       pub walk-goes : Walk c target out₀ from rx′ msg′ out′ at′ h′
       unfolding lined

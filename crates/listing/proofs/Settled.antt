@@ -14,7 +14,10 @@ use Rattle.protocol.specs.Answers.{broken, error}
 use Rattle.protocol.specs.Bytes.{over}
 use Rattle.protocol.specs.Calls.{v1, nextEntry}
 use Rattle.protocol.specs.Refusal.{refusal}
-use Rattle.protocol.specs.Ids.{published}
+use Rattle.protocol.specs.Ids.{Dialect, letters, published}
+use Rattle.protocol.proofs.Ids.{published-legal}
+use Rattle.ids.specs.Ids.{dialectOf, idsOf}
+use Rattle.ids.proofs.Laws.{dialect-back}
 use Rattle.protocol.specs.Reader.{Prog, Result, plain, entryWays, next, written, accepted, program, reply, plainCall}
 use Rattle.session.specs.declared.Answer.{Answer}
 use Rattle.session.specs.declared.Fault.the-variants as F
@@ -27,6 +30,7 @@ use Rattle.session.specs.declared.Reply.the-variants as R
 use Rattle.session.specs.declared.Version.the-variants.{V1}
 use Rattle.session.specs.declared.Want.the-variants as W
 use Rattle.session.specs.Calls.{isIdle, callRefusal, entryCall}
+use Rattle.session.specs.Demand3.{Opening}
 use Rattle.session.specs.Phases.{wants}
 use Rattle.session.specs.Reports.{readAt, reportRead, faultAt, reportFault}
 use Rattle.session.specs.Shown.{paper}
@@ -47,6 +51,7 @@ pub record Settled (c : ℕ) (u : List ℕ) (t : Told) : Type 0 where
   pub still : t .st .ses .pending ≡ Idle
   pub live : t .st .ses .ended ≡ false
   pub size : t .st .ses .capacity ≡ c
+  pub own : t .st .ses .ids ≡ idsOf letters
   pub same : plainCall (config c) (error 0) accepted (nextEntry v1) u
       ≡ record { answer = paper (t .st .rx) (t .st .msg) (t .answer); unread = held (t .st) }
 
@@ -62,7 +67,7 @@ program-is c = refl
 abbrev reads : ℕ → List ℕ → List ℕ → Result
 reads c u x = plain c (listing c) (u ++ x)
 
-module _ (φ : Frame) (u : List ℕ) (live : φ .ended ≡ false) (lent : φ .lent ≡ 0) where
+module _ (φ : Frame) (u : List ℕ) (live : φ .ended ≡ false) (lent : φ .lent ≡ 0) (own : φ .ids ≡ idsOf letters) where
   all-come : {r : Result} → reads (φ .capacity) u [] ≡ r → plainCall (config (φ .capacity)) (error 0) accepted (nextEntry v1) u ≡ reply (error 0) r
   all-come e =
       ap (λ (p : Prog). reply (error 0) (plain (φ .capacity) p u)) (program-is (φ .capacity))
@@ -77,6 +82,7 @@ module _ (φ : Frame) (u : List ℕ) (live : φ .ended ≡ false) (lent : φ .le
         still = k .still;
         live = ap (λ (ψ : Frame). ψ .ended) (k .frame) ∙ live;
         size = ap (λ (ψ : Frame). ψ .capacity) (k .frame);
+        own = ap (λ (ψ : Frame). ψ .ids) (k .frame) ∙ own;
         same = all-come (k .same []) ∙ ap (λ (y : List ℕ). record { answer = paper (s .rx) (s .msg) a; unread = y }) (append-nil (held s));
       }
 
@@ -95,6 +101,7 @@ module _ (φ : Frame) (u : List ℕ) (live : φ .ended ≡ false) (lent : φ .le
         still = refl;
         live = ap (λ (ψ : Frame). ψ .ended) (w .frame) ∙ live;
         size = ap (λ (ψ : Frame). ψ .capacity) (w .frame);
+        own = ap (λ (ψ : Frame). ψ .ids) (w .frame) ∙ own;
         same = all-come (waits-short w [] (omega (arith, w)))
             ∙ ap (λ (y : List ℕ). record { answer = broken (error 0); unread = y }) (append-nil (held s));
       })
@@ -116,7 +123,7 @@ module _ (φ : Frame) (u : List ℕ) (live : φ .ended ≡ false) (lent : φ .le
 abbrev header : Phase
 header = Header (W.Entry V1)
 
-module _ (t : St) (good : Good t) (still : t .ses .pending ≡ Idle) (live : t .ses .ended ≡ false) where
+module _ (t : St) (good : Good t) (still : t .ses .pending ≡ Idle) (live : t .ses .ended ≡ false) (own : t .ses .ids ≡ idsOf letters) where
   abbrev started : St
   started = st (begun (t .ses) 0) (t .rx) (t .msg)
 
@@ -129,10 +136,13 @@ module _ (t : St) (good : Good t) (still : t .ses .pending ≡ Idle) (live : t .
 
   step-kept : Kept (frameOf (started .ses)) false (reads (t .ses .capacity) (held t)) (entryCall t V1 0)
   unfolding cont wants
-  step-kept = rw let-in (pumped-ok started header false started-good tt)
+  step-kept =
+      subst (λ (d : Dialect). Kept (frameOf (started .ses)) false (λ x. plain (t .ses .capacity) (next d (t .ses .capacity) (entryWays v1)) (held t ++ x)) (entryCall t V1 0))
+      (ap dialectOf own ∙ dialect-back letters published-legal)
+      (rw let-in (pumped-ok started header false started-good tt))
 
   pub next-settled : Settled (t .ses .capacity) (held t) (ended (entryCall t V1 0))
-  next-settled = settled (frameOf (started .ses)) (held t) live refl (entryCall t V1 0) step-kept
+  next-settled = settled (frameOf (started .ses)) (held t) live refl own (entryCall t V1 0) step-kept
 
 -- ---- the first step, of a fresh session: n bytes of input lie at the front of the receive buffer
 
@@ -141,11 +151,14 @@ unfolding over
 over-all b n = rw (take-append-drop n b, zero-add, drop-of-length-le b {i = length b} (omega arith), append-nil)
 
 module _ (rx msg : List ℕ) (least : 8 ≤ length rx) (room : length rx ≤ length msg) where
+  abbrev opening : Opening
+  opening = record { banner = []; table = letters; legal = published-legal }
+
   abbrev s₀ : St
-  s₀ = begins [] rx msg least room
+  s₀ = begins opening rx msg least room
 
   g₀ : Good s₀
-  g₀ = begins-good [] rx msg least room
+  g₀ = begins-good opening rx msg least room
 
   -- it asks for the whole buffer, and alters no byte
   asks : readOn s₀ header false ≡ out (reading (s₀ .ses) 0 0 header false) rx msg
@@ -159,8 +172,8 @@ module _ (rx msg : List ℕ) (least : 8 ≤ length rx) (room : length rx ≤ len
 
   waits : (p : Phase) × Waits (frameOf (s₀ .ses)) (reads (length rx) (held s₀)) false s₁ 0 (length rx - 0) p
   waits =
-      subst (λ (o : Out). Kept (frameOf (s₀ .ses)) false (reads (length rx) (held s₀)) o) (let-in s₀ g₀ refl refl ∙ asks)
-      (step-kept s₀ g₀ refl refl)
+      subst (λ (o : Out). Kept (frameOf (s₀ .ses)) false (reads (length rx) (held s₀)) o) (let-in s₀ g₀ refl refl refl ∙ asks)
+      (step-kept s₀ g₀ refl refl refl)
 
   module _ (n : ℕ) (within : n ≤ length rx) where
     some-kept : 0 < n → Kept (frameOf (s₀ .ses)) false (reads (length rx) (take n rx)) (reportRead s₁ 0 n)
@@ -176,7 +189,7 @@ module _ (rx msg : List ℕ) (least : 8 ≤ length rx) (room : length rx ≤ len
         in
         subst (λ (o : Out). Kept φ false (reads (length rx) v) o) (sym (read-step s₁ 0 (waits .1 .good) refl refl (s₁ .ses .pending) refl refl n))
         (kept-eq φ false (reads (length rx) v) (λ x. reads (length rx) (held s₀) (v ++ x)) (readAt (s₁ .ses .pending) s₁ n)
-        (λ x. ap (λ (h : List ℕ). plain (length rx) (listing (length rx)) (h ++ (v ++ x))) (sym (begins-empty [] rx msg least room))) k)
+        (λ x. ap (λ (h : List ℕ). plain (length rx) (listing (length rx)) (h ++ (v ++ x))) (sym (begins-empty opening rx msg least room))) k)
 
     pub first-settled : Settled (length rx) (take n rx) (ended (firstOut s₀ n))
     first-settled = go (ℕ-discrete n 0)
@@ -184,7 +197,7 @@ module _ (rx msg : List ℕ) (least : 8 ≤ length rx) (room : length rx ≤ len
         go : Dec (n ≡ 0) → Settled (length rx) (take n rx) (ended (firstOut s₀ n))
         go (yes e) =
             rw (first-none s₀ n e, e)
-            (subst (λ (h : List ℕ). Settled (length rx) h (ended (entryCall s₀ V1 0))) (begins-empty [] rx msg least room) (next-settled s₀ g₀ refl refl))
+            (subst (λ (h : List ℕ). Settled (length rx) h (ended (entryCall s₀ V1 0))) (begins-empty opening rx msg least room) (next-settled s₀ g₀ refl refl refl))
         go (no e) =
-            rw (first-some s₀ n e, let-in s₀ g₀ refl refl, asks)
-            (settled (frameOf (s₀ .ses)) (take n rx) refl refl (reportRead s₁ 0 n) (some-kept (omega arith)))
+            rw (first-some s₀ n e, let-in s₀ g₀ refl refl refl, asks)
+            (settled (frameOf (s₀ .ses)) (take n rx) refl refl refl (reportRead s₁ 0 n) (some-kept (omega arith)))

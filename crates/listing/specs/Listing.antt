@@ -1,13 +1,15 @@
 -- What the program prints, over what it was given: the lines of the plain reader's answers (document 01, "Trial pieces").
 -- Assumes nothing.
 use Prim.Native.Nat.{ℕ, zero, suc}
+use mathlib.Core.Bool.{false}
 use mathlib.Core.List.{List, [], _∷_, _++_}
 use lib.ListN.{length}
 use Rattle.protocol.specs.Answers as P
 use Rattle.protocol.specs.Answers.{Answer, error, number}
 use Rattle.protocol.specs.Calls.{Call, v1, nextEntry}
+use Rattle.protocol.specs.Features.{featuresOf}
+use Rattle.protocol.specs.Ids.{published}
 use Rattle.protocol.specs.Reader.{Config, accepted, plainAnswers}
-use Rattle.session.specs.Demand3.{reader}
 use Rattle.listing_lines.specs.Lines.{heading, entryLine, endLine}
 
 -- n listing steps
@@ -38,7 +40,7 @@ linesOf (a ∷ more) = lined a (linesOf more)
 
 -- the plain reader for a session of capacity c
 abbrev pub config : ℕ → Config
-config c = reader [] c accepted
+config c = record { setting = record { dialect = published; features = featuresOf []; ended = false }; capacity = c; close = accepted }
 
 -- its answers to n listing steps, with end error 13
 abbrev pub answers : ℕ → ℕ → List ℕ → List Answer

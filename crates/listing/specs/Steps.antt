@@ -7,8 +7,10 @@ use lib.Dec.{eqb}
 use lib.ListN.{length}
 use Rattle.protocol.specs.Bytes.{pick}
 use Rattle.protocol.specs.Features.{featuresOf}
+use Rattle.protocol.specs.Ids.{letters}
 use Rattle.protocol.specs.Records.{Stat}
 use Rattle.format_record.specs.declared.StatV1.{StatV1}
+use Rattle.ids.specs.Ids.{idsOf}
 use Rattle.listing_lines.specs.Lines.{entryLine, laidIn, headingRoom, entryRoom, endRoom}
 use Rattle.session.specs.declared.Answer.{Answer}
 use Rattle.session.specs.declared.Answer.the-variants as A
@@ -93,7 +95,7 @@ pub record Ample (x m n most : ℕ) : Type 0 where
 -- A fresh session on buffers that opening takes, n bytes of input in the first of them, and room in a buffer of `most` bytes from `from` on:
 -- an entry's line has at most twice the bytes of the entry.
 pub record Ready (s : Session) (rx msg : List ℕ) (n most from : ℕ) : Type 0 where
-  pub fresh : s ≡ fresh (length rx) (length msg) (featuresFrom (featuresOf []))
+  pub fresh : s ≡ fresh (length rx) (length msg) (featuresFrom (featuresOf [])) (idsOf letters)
   pub least : 8 ≤ length rx
   pub aside : length rx ≤ length msg
   pub within : n ≤ length rx

@@ -13,6 +13,7 @@ ghost use Rattle.session.specs.State.{st, out};
 ghost use Rattle.listing.specs.Listing.{listed, printed};
 ghost use Rattle.listing.specs.Steps.{told, toldBy, ended, firstOut, lineOf, shown, Ready, Ample};
 use format_record::StatV1;
+use ids::Ids;
 use libc::STDIN_FILENO;
 use libc::STDOUT_FILENO;
 use listing_lines::put_end;
@@ -188,7 +189,8 @@ fn list(rx: &mut [u8], msg: &mut [u8], n: usize, out: &mut [u8]) -> usize
     requires { ⌜ Ample (length (now rx)) (length (now msg)) n (length (now out)) ⌝ }
     ensures { λ r. ⌜ Laid (now (out .entry)) 0 (printed (length (now (rx .entry))) (take n (now (rx .entry)))) (now (out .exit)) r × (r ≤ length (now (out .exit))) ⌝ }
 {
-    let opened = open(b"", rx.len(), msg.len());
+    let ids = Ids::published();
+    let opened = open(b"", ids, rx.len(), msg.len());
     match opened {
         Opened::Session(s) => {
             let from = put_heading(out, 0);

@@ -20,3 +20,4 @@ pub mod Banners
 pub mod Received
 pub mod Numbers
 pub mod Limits
+pub mod Lettered

@@ -13,6 +13,7 @@ use Rattle.protocol.specs.Fact.{Hold}
 use Rattle.protocol.specs.Flags.{refusedFlags, several, unknown, dryRun}
 use Rattle.protocol.specs.Decimal.{decimal, canonical}
 use Rattle.protocol.specs.Refusal.{pathRefusal, flagRefusal, featureRefusal, transferRefusal, requestRefusal, refusal}
+use Rattle.protocol.specs.Ids.{Table, STAT}
 use Rattle.protocol.specs.Limits.{Limits, host, lengths}
 use Rattle.protocol.specs.Messages.{dataMost, bytesOfRequest, messageOf}
 use Rattle.protocol.specs.Reader.{writes}
@@ -58,23 +59,23 @@ ten-digits : decimal 4294967295 ≡ ascii "4294967295"
 unfolding canonical
 ten-digits = let (e, small) = decimal-canonical (ascii "4294967295") 4294967295 refl in sym e
 
-over-unwritten : (p : List ℕ) → 1024 < length p → map (λ q. writes host (call q)) (withPath 33188 4 p) ≡ replicate 8 []
+over-unwritten : (t : Table) (p : List ℕ) → 1024 < length p → map (λ q. writes (host t) (call q)) (withPath 33188 4 p) ≡ replicate 8 []
 unfolding pathRefusal requestRefusal refusal writes
-over-unwritten p l = go (has 0 p) refl
+over-unwritten t p l = go (has 0 p) refl
   where
-    go : (nul : Bool) → has 0 p ≡ nul → map (λ q. writes host (call q)) (withPath 33188 4 p) ≡ replicate 8 []
+    go : (nul : Bool) → has 0 p ≡ nul → map (λ q. writes (host t) (call q)) (withPath 33188 4 p) ≡ replicate 8 []
     go true z = simp (z, lt-ltb _ _ l)
     go false z = simp (z, lt-ltb _ _ l)
 
-pub limits : Limits
+pub limits : (t : Table) → Limits t
 unfolding pathRefusal requestRefusal refusal messages writes bytesOfRequest messageOf
-limits =
+limits t =
     record {
       path-fits = λ p n l. simp (has-no-nul p n, le-ltb _ _ l);
       path-over = λ p n l. simp (has-no-nul p n, lt-ltb _ _ l);
-      longest-asked = λ p n l. rw (l, has-no-nul p n, append-nil p, append-nil p);
-      longest-sent = λ p n l. rw (l, has-no-nul p n, ten-digits, append-nil (p ++ ascii ",4294967295"));
-      over-unwritten = over-unwritten;
+      longest-asked = λ p n l. rw (l, has-no-nul p n) (append-nil _ ∙ ap (λ (s : List ℕ). (t STAT ++ 0 ∷ 4 ∷ 0 ∷ 0 ∷ []) ++ s) (append-nil p));
+      longest-sent = λ p n l. rw (l, has-no-nul p n, ten-digits) (append-nil _);
+      over-unwritten = over-unwritten t;
       data-unrefused = λ x. refl;
       data-none = ap chunks cut-none;
       data-one = λ x n l. ap chunks (cut-one x n l);

@@ -5,7 +5,7 @@
 -- are in Received.
 -- Assumes nothing.
 use Prim.Native.Nat.{ℕ, _≤_, _<_}
-use mathlib.Core.Bool.{true}
+use mathlib.Core.Bool.{true, false}
 use mathlib.Core.List.{List, [], _∷_, _++_, map}
 use mathlib.Core.Option.{Option, none, some}
 use mathlib.Core.Path.{_≡_}
@@ -14,17 +14,16 @@ use Rattle.protocol.specs.Answers.{Answer, refused}
 use Rattle.protocol.specs.Bytes.{ascii}
 use Rattle.protocol.specs.Calls.{call, messages}
 use Rattle.protocol.specs.Fact.{Fact}
-use Rattle.protocol.specs.Ids.{published}
+use Rattle.protocol.specs.Ids.{Table, under, published, STAT, SEND}
 use Rattle.protocol.specs.Messages.{stat, ask, send, chunk}
-use Rattle.protocol.specs.Reader.{Config, writes}
+use Rattle.protocol.specs.Reader.{Config, accepted, writes}
 use Rattle.protocol.specs.Refusal.{pathRefusal, refusal}
 use Rattle.protocol.specs.Refusals.{withPath, answers, NoNul}
-use Rattle.protocol.specs.Written.{session}
 
 -- ---- a path in every request that has one, with these flags, where every feature is there
 
-abbrev pub host : Config
-host = session (replicate 7 true)
+abbrev pub host : Table → Config
+host t = record { setting = record { dialect = under t; features = replicate 7 true; ended = false }; capacity = 8; close = accepted }
 
 abbrev answered : (flags : ℕ) → (path : List ℕ) → Option Answer → Fact (List (Option Answer))
 answered f p a = record { computed = answers published (replicate 7 true) (withPath 33188 f p); paper = replicate 8 a }
@@ -45,19 +44,19 @@ lengths =
     ∷ answered 3 (0 ∷ []) (some (refused 8))
     ∷ []
 
--- ---- paths and data of every length
+-- ---- paths and data of every length, under any table
 
-pub record Limits : Type 0 where
-  pub path-fits : (p : List ℕ) → NoNul p → length p ≤ 1024 → pathRefusal published p ≡ none
-  pub path-over : (p : List ℕ) → NoNul p → 1024 < length p → pathRefusal published p ≡ some (refused 7)
+pub record Limits (t : Table) : Type 0 where
+  pub path-fits : (p : List ℕ) → NoNul p → length p ≤ 1024 → pathRefusal (under t) p ≡ none
+  pub path-over : (p : List ℕ) → NoNul p → 1024 < length p → pathRefusal (under t) p ≡ some (refused 7)
   -- the longest path goes out with its length; a SEND of it and of ten digits has the largest arg, 1,035
-  pub longest-asked : (p : List ℕ) → NoNul p → length p ≡ 1024 → writes host (call (ask stat p)) ≡ ascii "STAT" ++ 0 ∷ 4 ∷ 0 ∷ 0 ∷ p
+  pub longest-asked : (p : List ℕ) → NoNul p → length p ≡ 1024 → writes (host t) (call (ask stat p)) ≡ (t STAT ++ 0 ∷ 4 ∷ 0 ∷ 0 ∷ []) ++ p
   pub longest-sent : (p : List ℕ) → NoNul p → length p ≡ 1024
-      → writes host (call (send p 4294967295)) ≡ ascii "SEND" ++ 0x0b ∷ 4 ∷ 0 ∷ 0 ∷ p ++ ascii ",4294967295"
+      → writes (host t) (call (send p 4294967295)) ≡ (t SEND ++ 0x0b ∷ 4 ∷ 0 ∷ 0 ∷ []) ++ (p ++ ascii ",4294967295")
   -- of a longer one nothing does, in any request, with a NUL or without
-  pub over-unwritten : (p : List ℕ) → 1024 < length p → map (λ q. writes host (call q)) (withPath 33188 4 p) ≡ replicate 8 []
+  pub over-unwritten : (p : List ℕ) → 1024 < length p → map (λ q. writes (host t) (call q)) (withPath 33188 4 p) ≡ replicate 8 []
   -- data of any length is taken
-  pub data-unrefused : (x : List ℕ) → refusal (host .setting) (call (chunk x)) ≡ none
+  pub data-unrefused : (x : List ℕ) → refusal (host t .setting) (call (chunk x)) ≡ none
   pub data-none : messages (call (chunk [])) ≡ []
   -- one message up to the limit
   pub data-one : (x : List ℕ) → 0 < length x → length x ≤ 65536 → messages (call (chunk x)) ≡ chunk x ∷ []

@@ -63,13 +63,13 @@ doneCall = call (done 5)
 -- ---- stats: "STAT, 16 bytes: mode 4, size 8, mtime 12", "STA2, 72: error 4, dev 8 (u64), ino 16 (u64), mode 24, .."
 
 -- "a stat or entry answers its numbers at the offsets above"
-abbrev lowStat : Stat
+abbrev pub lowStat : Stat
 lowStat = record { mode = 0x0706_0504; size = 0x0b0a_0908; mtime = 0x0f0e_0d0c }
 
 abbrev highStat : Stat
 highStat = record { mode = 0xf8f9_fafb; size = 0xf4f5_f6f7; mtime = 0xf0f1_f2f3 }
 
-abbrev lowStat2 : (error : ℕ) → Stat2
+abbrev pub lowStat2 : (error : ℕ) → Stat2
 lowStat2 e =
     record {
       error = e;

@@ -14,6 +14,7 @@ use Rattle.protocol.specs.Bytes.{signed}
 use Rattle.protocol.proofs.Records.{signed-low, signed-high}
 use Rattle.features.specs.Meaning.{listed}
 use Rattle.features.specs.declared.Features.{Features}
+use Rattle.ids.specs.declared.Ids.{Ids}
 use Rattle.request.specs.declared.Request.{Request}
 use Rattle.request.specs.declared.Request.the-variants as Q
 use Rattle.session.specs.declared.Pending.{Pending}
@@ -24,8 +25,13 @@ use Rattle.session.specs.declared.Session.{Session}
 use Rattle.session.specs.declared.Version.the-variants.{V1, V2}
 use Rattle.session.specs.declared.Want.the-variants as W
 use Rattle.session.specs.Core.{featuresFrom}
-use Rattle.record.specs.Fields.{bit, isOne, bits, bitsOf, low, unsigned, padded, registers, ownNumbers, stepNumbers, fields, sessionOf, keepsIn, stepIn, known, phaseState, phaseNumbers, requestState, requestNumbers, pendingOf}
-use Rattle.record.specs.Narrow.{U32, U64, I64, NarrowPhase, NarrowRequest, NarrowPending, Narrow}
+use Rattle.record.specs.Fields.{bit, isOne, bits, bitsOf, low, unsigned, padded, registers, ownNumbers, stepNumbers, fields, sessionOf, keepsIn, stepIn, known, phaseState, phaseNumbers, requestState, requestNumbers, idNumbers, idsFrom, pendingOf}
+use Rattle.record.specs.Narrow.{U32, U64, I64, NarrowPhase, NarrowRequest, NarrowPending, NarrowIds, Narrow}
+
+pub length-padded : (k : ℕ) (r : List ℕ) → length (padded k r) ≡ k
+length-padded zero r = refl
+length-padded (suc k) [] = ap suc (length-padded k [])
+length-padded (suc k) (x ∷ r) = ap suc (length-padded k r)
 
 -- ---- bits
 
@@ -52,6 +58,17 @@ bits-back (b ∷ bs) =
 pub features-back : (f : Features) → featuresFrom (bitsOf 7 (bits (listed f))) ≡ f
 features-back f = ap featuresFrom (bits-back (listed f))
 
+pub one-forth : (n : ℕ) → n < 2 → bit (isOne n) ≡ n
+one-forth zero h = refl
+one-forth (suc zero) h = refl
+one-forth (suc (suc n)) h = absurd (omega arith)
+
+pub bits-forth : (k n : ℕ) → n < 2 ^ k → bits (bitsOf k n) ≡ n
+bits-forth zero n h = omega arith
+bits-forth (suc k) n h =
+    let l : n < 2 * 2 ^ k = rw pow-succ' at h in
+    rw (one-forth (n % 2) (omega arith), bits-forth k (n / 2) (omega arith)) (omega arith)
+
 -- ---- widths
 
 low-back : (n : ℕ) → U32 n → low n ≡ n
@@ -74,7 +91,7 @@ numbers ns i = getD ns i 0
 
 -- the numbers of a session with the pending step p
 abbrev with : Session → Pending → ℕ → ℕ
-with s p = numbers (ownNumbers s ++ stepNumbers p)
+with s p = numbers (ownNumbers s ++ stepNumbers p ++ idNumbers (s .ids))
 
 abbrev Back : ℕ → Pending → Pending → Type 0
 Back state p q = (ltb state 31 ≡ true) × (p ≡ q)
@@ -130,6 +147,24 @@ module _ (s : Session) where
   writing-back Q.Data from piece h = (refl, refl)
   writing-back (Q.Done t) from piece h = (refl, rw (low-back t h))
   writing-back Q.Quit from piece h = (refl, refl)
+
+  -- the ids lie behind the 24 numbers
+  behind : (ms ns : List ℕ) (i j : ℕ) → j ≡ length ms + i → getD (ms ++ ns) j 0 ≡ getD ns i 0
+  behind [] ns i j e = ap (λ (k : ℕ). getD ns k 0) (omega arith)
+  behind (m ∷ ms) ns i zero e = absurd (omega arith)
+  behind (m ∷ ms) ns i (suc j) e = behind ms ns i j (omega arith)
+
+  pub own-length : (p : Pending) → length (ownNumbers s ++ stepNumbers p) ≡ 24
+  own-length Idle = refl
+  own-length (Reading p until lost) = rw (length-padded 12 (phaseNumbers p))
+  own-length (Writing q from piece) = rw (length-padded 12 (requestNumbers q))
+  own-length (Closing failed code) = refl
+
+  id-at : (p : Pending) (i : ℕ) → with s p (24 + i) ≡ getD (idNumbers (s .ids)) i 0
+  id-at p i = behind (ownNumbers s ++ stepNumbers p) (idNumbers (s .ids)) i (24 + i) (omega (arith, own-length p))
+
+  pub ids-back : (p : Pending) → idsFrom (with s p) ≡ s .ids
+  ids-back p = rw (id-at p 0, id-at p 1, id-at p 2, id-at p 3, id-at p 4, id-at p 5, id-at p 6, id-at p 7)
 
   pub pending-back : (p : Pending) → NarrowPending (s .capacity) p → Back (with s p 7) (pendingOf (with s p)) p
   pending-back Idle h = (refl, refl)
@@ -221,13 +256,22 @@ module _ (s : Session) where
       step-wide (requestState q) 0 0 from piece (requestNumbers q) k (omega arith) (omega arith) (h .1 .0) (h .1 .1) (request-wide q (h .0))
   pending-wide w (Closing failed code) h = let k = bit-small failed in search needs
 
+all-append : (ms ns : List ℕ) → AllU64 ms → AllU64 ns → AllU64 (ms ++ ns)
+all-append [] ns h g = g
+all-append (m ∷ ms) ns h g = (h .0, all-append ms ns (h .1) g)
+
+ids-wide : (t : Ids) → NarrowIds t → AllU64 (idNumbers t)
+ids-wide t h = search needs
+
 module _ (s : Session) (n : Narrow s) where
   pub fields-wide : (i : ℕ) → U64 (numbers (fields s) i)
   unfolding fields
   fields-wide i =
       let f : U64 (bits (listed (s .features))) = omega (arith, bits-small (listed (s .features))) in
       let e : U64 (bit (s .ended)) = omega (arith, bit-small (s .ended)) in
-      at-all (fields s) (n .capacity, (n .message, (n .head, (n .tail, (n .lent, (f, (e, pending-wide s (n .capacity) (s .pending) (n .pending)))))))) i
+      let p = pending-wide s (n .capacity) (s .pending) (n .pending) in
+      let own : AllU64 (ownNumbers s ++ stepNumbers (s .pending)) = (n .capacity, (n .message, (n .head, (n .tail, (n .lent, (f, (e, p))))))) in
+      at-all (fields s) (all-append (ownNumbers s ++ stepNumbers (s .pending)) (idNumbers (s .ids)) own (ids-wide (s .ids) (n .ids))) i
 
   pub fields-known : known (numbers (fields s)) ≡ true
   unfolding fields known
@@ -243,4 +287,4 @@ module _ (s : Session) (n : Narrow s) where
 
   pub fields-back : sessionOf (numbers (fields s)) ≡ s
   unfolding fields sessionOf
-  fields-back = rw (features-back (s .features), one-bit (s .ended), pending-back s (s .pending) (n .pending) .1)
+  fields-back = rw (features-back (s .features), ids-back s (s .pending), one-bit (s .ended), pending-back s (s .pending) (n .pending) .1)

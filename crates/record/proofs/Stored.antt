@@ -1,36 +1,23 @@
--- A stored session: 192 bytes that load as the session, and that differ in eight bytes where it differs in `tail`. Assumes nothing.
-use mathlib.Core.List.{List, [], _∷_, _++_}
+-- A stored session: 256 bytes that load as the session, and that differ in eight bytes where it differs in `tail`. Assumes nothing.
+use mathlib.Core.List.{_++_}
 use mathlib.Core.Option.{some}
-use mathlib.Core.Path.{_≡_, refl, ap, fun-ext}
-use Prim.Native.Nat.{ℕ, zero, suc}
+use mathlib.Core.Path.{_≡_, ap, _∙_, fun-ext}
+use Prim.Native.Nat.{ℕ}
 use native.Mathlib.Omega.{arith}
-use lib.ListN.{length}
+use lib.ListN.{length, length-append}
 use Rattle.protocol.specs.Bytes.{bytesOf, put}
 use Rattle.recv_buf.specs.RecvBuf.{cursor}
 use Rattle.session.specs.State.{at}
-use Rattle.session.specs.declared.Pending.{Pending}
-use Rattle.session.specs.declared.Pending.the-variants.{Idle, Reading, Writing, Closing}
 use Rattle.session.specs.declared.Session.{Session}
-use Rattle.record.specs.Fields.{fields, padded, ownNumbers, stepNumbers, phaseNumbers, requestNumbers}
+use Rattle.record.specs.Fields.{fields, ownNumbers, stepNumbers, idNumbers}
 use Rattle.record.specs.Narrow.{Narrow}
 use Rattle.record.specs.Record.{size, wordOf, stored, loaded}
-use Rattle.record.proofs.Numbers.{numbers, fields-wide, fields-known, fields-back}
+use Rattle.record.proofs.Numbers.{numbers, own-length, fields-wide, fields-known, fields-back}
 use Rattle.record.proofs.Words.{length-words, word-words, put-word}
 
-pub length-padded : (k : ℕ) (r : List ℕ) → length (padded k r) ≡ k
-length-padded zero r = refl
-length-padded (suc k) [] = ap suc (length-padded k [])
-length-padded (suc k) (x ∷ r) = ap suc (length-padded k r)
-
-pub fields-length : (s : Session) → length (fields s) ≡ 24
+pub fields-length : (s : Session) → length (fields s) ≡ 32
 unfolding fields
-fields-length s = go (s .pending)
-  where
-    go : (p : Pending) → length (ownNumbers s ++ stepNumbers p) ≡ 24
-    go Idle = refl
-    go (Reading p until lost) = rw (length-padded 12 (phaseNumbers p))
-    go (Writing q from piece) = rw (length-padded 12 (requestNumbers q))
-    go (Closing failed code) = refl
+fields-length s = length-append (ownNumbers s ++ stepNumbers (s .pending)) (idNumbers (s .ids)) ∙ omega (arith, own-length s (s .pending))
 
 pub stored-length : (s : Session) → length (stored s) ≡ size
 unfolding stored

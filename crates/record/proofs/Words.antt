@@ -1,13 +1,14 @@
--- Laws of `words`: how long they are, the i-th read back and replaced, and puts one behind the other. Assumes nothing.
+-- Laws of `words`: how long they are, the i-th read back and replaced, puts one behind the other, and bytes as words. Assumes nothing.
 use mathlib.Core.List.{List, [], _∷_, _++_, append-assoc, append-nil}
 use mathlib.Core.Path.{_≡_, refl, sym, ap, _∙_}
 use Prim.Native.Nat.{ℕ, zero, suc, _+_, _*_, _≤_, _<_}
 use native.Mathlib.Omega.{arith}
-use lib.ListN.{length, take, drop, getD, set, length-append, drop-of-length-le}
-use lib.Seq.{take-append-seam, take-append-add, drop-append-add, drop-nil}
-use Rattle.protocol.specs.Bytes.{le, bytesOf, numberAt, over, put, whole}
+use lib.ListN.{length, take, drop, getD, set, length-append, length-drop, take-append-drop, drop-of-length-le}
+use lib.Seq.{length-take-le, take-append-seam, take-append-add, drop-append-add, drop-drop, drop-nil}
+use Rattle.protocol.specs.Bytes.{Bytes, le, bytesOf, numberAt, over, put, whole}
 use Rattle.protocol.specs.Records.{u64At}
-use Rattle.protocol.proofs.Bytes.{length-bytesOf, le-bytesOf, put-in, put-put, whole-in}
+use Rattle.protocol.proofs.Bytes.{length-bytesOf, le-bytesOf, bytesOf-le, bytes-drop, put-in, put-put, whole-in}
+use Rattle.protocol.proofs.Words.{bytes-take}
 use Rattle.record.specs.Narrow.{U64}
 use Rattle.record.specs.Record.{words, wordOf}
 
@@ -15,7 +16,7 @@ pub length-words : (ns : List ℕ) → length (words ns) ≡ 8 * length ns
 length-words [] = refl
 length-words (n ∷ ns) = length-append (bytesOf 8 n) (words ns) ∙ omega (arith, length-bytesOf 8 n, length-words ns)
 
-words-append : (ms ns : List ℕ) → words (ms ++ ns) ≡ words ms ++ words ns
+pub words-append : (ms ns : List ℕ) → words (ms ++ ns) ≡ words ms ++ words ns
 words-append [] ns = refl
 words-append (m ∷ ms) ns = ap (λ (l : List ℕ). bytesOf 8 m ++ l) (words-append ms ns) ∙ sym (append-assoc (bytesOf 8 m) (words ms) (words ns))
 
@@ -62,3 +63,23 @@ over-word (n ∷ ns) (suc i) t h =
 
 pub put-word : (ns : List ℕ) (i t : ℕ) → i < length ns → put (words ns) (8 * i) (bytesOf 8 t) ≡ words (set ns i t)
 put-word ns i t h = put-in (words ns) (8 * i) (bytesOf 8 t) (omega (arith, length-words ns)) ∙ over-word ns i t h
+
+-- ---- bytes, as their numbers
+
+module _ (rec : List ℕ) where
+  -- k numbers, from the i-th on
+  unfoldable pub numbersFrom : ℕ → ℕ → List ℕ
+  numbersFrom zero i = []
+  numbersFrom (suc k) i = wordOf rec i ∷ numbersFrom k (suc i)
+
+  pub words-from : Bytes rec → (k i : ℕ) → 8 * (i + k) ≡ length rec → drop (8 * i) rec ≡ words (numbersFrom k i)
+  unfolding numbersFrom numberAt
+  words-from bytes zero i e = drop-of-length-le rec {i = 8 * i} (omega arith)
+  words-from bytes (suc k) i e =
+      let l : List ℕ = drop (8 * i) rec in
+      let f : length (take 8 l) ≡ 8 = length-take-le 8 l (omega (arith, length-drop (8 * i) rec)) in
+      let b : Bytes (take 8 l) = bytes-take 8 l (bytes-drop (8 * i) rec bytes) in
+      let w : bytesOf 8 (wordOf rec i) ≡ take 8 l = ap (λ (n : ℕ). bytesOf n (le (take 8 l))) (sym f) ∙ bytesOf-le (take 8 l) b in
+      let m : 8 * i + 8 ≡ 8 * suc i = omega arith in
+      let d : drop 8 l ≡ drop (8 * suc i) rec = drop-drop 8 (8 * i) rec ∙ ap (λ (n : ℕ). drop n rec) m in
+      sym (take-append-drop 8 l) ∙ cc (w, d, words-from bytes k (suc i) (omega arith))

@@ -1,7 +1,8 @@
--- A session as 24 numbers: which number each of its fields is, and the session that 24 numbers are.
+-- A session as 32 numbers: which number each of its fields is, and the session that 32 numbers are.
 --
 --  0 capacity   1 message   2 head   3 tail   4 lent   5 features   6 ended
 --  7 the state of the pending step   8 flag   9 until   10 from   11 piece   12 to 23 registers
+--  24 to 31 the ids, two to a number
 --
 -- Assumes nothing.
 use Prim.Native.Nat.{ℕ, zero, suc, _+_, _*_, _-_, _/_, _%_}
@@ -17,6 +18,7 @@ use Rattle.format_flags.specs.declared.FileMode.{FileMode}
 use Rattle.format_flags.specs.declared.SyncFlags.{SyncFlags}
 use Rattle.format_record.specs.declared.DentV1.{DentV1}
 use Rattle.format_record.specs.declared.DentV2.{DentV2}
+use Rattle.ids.specs.declared.Ids.{Ids}
 use Rattle.request.specs.declared.Request.{Request}
 use Rattle.request.specs.declared.Request.the-variants as Q
 use Rattle.session.specs.Core.{featuresFrom}
@@ -149,8 +151,12 @@ stepNumbers (Closing failed code) = 12 ∷ bit failed ∷ 0 ∷ 0 ∷ 0 ∷ regi
 abbrev pub ownNumbers : Session → List ℕ
 ownNumbers s = s .capacity ∷ s .message ∷ s .buf .head ∷ s .buf .tail ∷ s .lent ∷ bits (listed (s .features)) ∷ bit (s .ended) ∷ []
 
+-- the ids, in the order of `SyncId::ALL`, two to a number
+abbrev pub idNumbers : Ids → List ℕ
+idNumbers t = t .stat ∷ t .list ∷ t .send ∷ t .recv ∷ t .«data» ∷ t .okay ∷ t .dent ∷ t .quit ∷ []
+
 unfoldable pub fields : Session → List ℕ
-fields s = ownNumbers s ++ stepNumbers (s .pending)
+fields s = ownNumbers s ++ stepNumbers (s .pending) ++ idNumbers (s .ids)
 
 -- ---- and back: n i is the i-th number
 
@@ -214,6 +220,9 @@ pendings n =
     Idle ∷ map (λ q. Writing q (n 10) (n 11)) (requests n)
     ++ Closing (isOne (n 8)) (low (n 12)) ∷ map (λ p. Reading p (n 9) (isOne (n 8))) (phases n)
 
+abbrev pub idsFrom : (ℕ → ℕ) → Ids
+idsFrom n = record { stat = n 24; list = n 25; send = n 26; recv = n 27; «data» = n 28; okay = n 29; dent = n 30; quit = n 31 }
+
 abbrev pub pendingOf : (ℕ → ℕ) → Pending
 pendingOf n = getD (pendings n) (n 7) Idle
 
@@ -225,6 +234,7 @@ sessionOf n =
       buf = record { head = n 2; tail = n 3 };
       lent = n 4;
       features = featuresFrom (bitsOf 7 (n 5));
+      ids = idsFrom n;
       ended = isOne (n 6);
       pending = pendingOf n;
     }

@@ -8,6 +8,7 @@ use lib.IntN.{ℤ}
 use lib.Signed.{mag}
 use Rattle.format_record.specs.declared.DentV1.{DentV1}
 use Rattle.format_record.specs.declared.DentV2.{DentV2}
+use Rattle.ids.specs.declared.Ids.{Ids}
 use Rattle.request.specs.declared.Request.{Request}
 use Rattle.request.specs.declared.Request.the-variants as Q
 use Rattle.session.specs.declared.Pending.{Pending}
@@ -77,10 +78,21 @@ NarrowPending c (Reading p until lost) = NarrowPhase c p × U64 until
 NarrowPending c (Writing q from piece) = NarrowRequest q × (U64 from × U64 piece) × (startsIn q from ≡ true)
 NarrowPending c (Closing failed code) = U32 code
 
+pub record NarrowIds (t : Ids) : Type 0 where
+  pub stat : U64 (t .stat)
+  pub list : U64 (t .list)
+  pub send : U64 (t .send)
+  pub recv : U64 (t .recv)
+  pub «data» : U64 (t .«data»)
+  pub okay : U64 (t .okay)
+  pub dent : U64 (t .dent)
+  pub quit : U64 (t .quit)
+
 pub record Narrow (s : Session) : Type 0 where
   pub capacity : U64 (s .capacity)
   pub message : U64 (s .message)
   pub head : U64 (s .buf .head)
   pub tail : U64 (s .buf .tail)
   pub lent : U64 (s .lent)
+  pub ids : NarrowIds (s .ids)
   pub pending : NarrowPending (s .capacity) (s .pending)

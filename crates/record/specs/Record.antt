@@ -1,4 +1,4 @@
--- The record: a session's 24 numbers in a lent slice of 192 bytes, eight for each, the lowest first.
+-- The record: a session's 32 numbers in a lent slice of 256 bytes, eight for each, the lowest first.
 -- Assumes nothing.
 use Prim.Native.Nat.{ℕ, _*_}
 use mathlib.Core.Bool.{_&&_}
@@ -12,7 +12,7 @@ use Rattle.session.specs.declared.Session.{Session}
 use Rattle.record.specs.Fields.{fields, known, sessionOf}
 
 abbrev pub size : ℕ
-size = 192
+size = 256
 
 -- numbers in eight bytes each
 abbrev pub words : List ℕ → List ℕ
@@ -26,6 +26,6 @@ stored s = words (fields s)
 abbrev pub wordOf : List ℕ → ℕ → ℕ
 wordOf rec i = u64At (8 * i) rec
 
--- the session that a record holds; none where it is not 192 bytes, or its numbers are no session's
+-- the session that a record holds; none where it is not 256 bytes, or its numbers are no session's
 unfoldable pub loaded : List ℕ → Option Session
 loaded rec = pick (eqb (length rec) size && known (wordOf rec)) (some (sessionOf (wordOf rec))) none

@@ -1,5 +1,5 @@
 // A session in a lent record: how many bytes it takes, its numbers of eight bytes each, and the states of its pending step.
-pub const SIZE: usize = 192;
+pub const SIZE: usize = 256;
 
 // ---- the numbers, by their places
 
@@ -33,6 +33,9 @@ pub const PIECE: u8 = 11;
 pub const REGISTER: u8 = 12;
 
 pub const KEPT: u8 = 13;
+
+// The first of the numbers of the ids.
+pub const IDS: u8 = 24;
 
 // ---- the states: nothing is pending, a request is out, the channel closes, a header or a part is awaited
 

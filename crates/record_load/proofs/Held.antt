@@ -53,7 +53,7 @@ module _ (rec : List ℕ) where
       → stepIn (wordOf rec 0) (pendingOf (wordOf rec)) ≡ b
   step-told b l e = rw (eq-eqb (length rec) size l) at e
 
-  -- a record that holds a session is 192 bytes long
+  -- a record that holds a session is 256 bytes long
   pub loaded-size : (s : Session) → some s ≡ loaded rec → length rec ≡ size
   loaded-size s e = go holds refl
     where

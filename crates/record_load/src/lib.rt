@@ -6,7 +6,7 @@ ghost use mathlib.Core.Bool.{false};
 ghost use lib.Dec.{eqb};
 ghost use Rattle.protocol.specs.Bytes.{pick, signed};
 ghost use Rattle.session.specs.Core.{featuresFrom};
-ghost use Rattle.record.specs.Fields.{isOne, bitsOf, low, dentFrom, dent2From, pendingOf, sessionOf, stepIn};
+ghost use Rattle.record.specs.Fields.{isOne, bitsOf, low, dentFrom, dent2From, idsFrom, pendingOf, sessionOf, stepIn};
 ghost use Rattle.record.specs.Record.{size, wordOf, loaded};
 ghost use Rattle.record_load.specs.Found.{found};
 ghost use Rattle.session.specs.declared.Pending.the-variants.{Reading, Writing};
@@ -19,6 +19,7 @@ use format_record::DentV1;
 use format_record::DentV2;
 use format_record::StatV1;
 use format_record::StatV2;
+use ids::Ids;
 use record::CAPACITY;
 use record::CLOSING;
 use record::DATA_OUT;
@@ -29,6 +30,7 @@ use record::FLAG;
 use record::FROM;
 use record::HEAD;
 use record::IDLE;
+use record::IDS;
 use record::KEPT;
 use record::LENT;
 use record::MESSAGE;
@@ -49,13 +51,13 @@ use session::Want;
 
 pub enum Loaded {
     Session(Session),
-    // it is not 192 bytes long, or its numbers are no session's
+    // it is not 256 bytes long, or its numbers are no session's
     Unknown,
 }
 
 // The i-th number of a record.
 fn word(rec: &[u8], i: u8) -> u64
-    requires { ⌜ (length (now rec) ≡ size) × (i < 24) ⌝ }
+    requires { ⌜ (length (now rec) ≡ size) × (i < 32) ⌝ }
     ensures { λ r. ⌜ r ≡ wordOf (now (rec .entry)) i ⌝ }
 {
     u64_at(rec, 8 * (i as usize))
@@ -63,7 +65,7 @@ fn word(rec: &[u8], i: u8) -> u64
 
 // ... as a place or a length.
 fn place(rec: &[u8], i: u8) -> usize
-    requires { ⌜ (length (now rec) ≡ size) × (i < 24) ⌝ }
+    requires { ⌜ (length (now rec) ≡ size) × (i < 32) ⌝ }
     ensures { λ r. ⌜ r ≡ wordOf (now (rec .entry)) i ⌝ }
 {
     word(rec, i) as usize
@@ -71,7 +73,7 @@ fn place(rec: &[u8], i: u8) -> usize
 
 // ... its low 32 bits.
 fn half(rec: &[u8], i: u8) -> u32
-    requires { ⌜ (length (now rec) ≡ size) × (i < 24) ⌝ }
+    requires { ⌜ (length (now rec) ≡ size) × (i < 32) ⌝ }
     ensures { λ r. ⌜ r ≡ low (wordOf (now (rec .entry)) i) ⌝ }
 {
     (word(rec, i) % 0x1_0000_0000) as u32
@@ -79,7 +81,7 @@ fn half(rec: &[u8], i: u8) -> u32
 
 // ... as a signed number.
 fn time(rec: &[u8], i: u8) -> i64
-    requires { ⌜ (length (now rec) ≡ size) × (i < 24) ⌝ }
+    requires { ⌜ (length (now rec) ≡ size) × (i < 32) ⌝ }
     ensures { λ r. ⌜ r ≡ signed (wordOf (now (rec .entry)) i) ⌝ }
 {
     i64_at(rec, 8 * (i as usize))
@@ -229,6 +231,22 @@ fn pending(rec: &[u8]) -> Pending
     }
 }
 
+fn ids(rec: &[u8]) -> Ids
+    requires { ⌜ length (now rec) ≡ size ⌝ }
+    ensures { λ r. ⌜ r ≡ idsFrom (wordOf (now (rec .entry))) ⌝ }
+{
+    Ids {
+        stat: word(rec, IDS),
+        list: word(rec, IDS + 1),
+        send: word(rec, IDS + 2),
+        recv: word(rec, IDS + 3),
+        data: word(rec, IDS + 4),
+        okay: word(rec, IDS + 5),
+        dent: word(rec, IDS + 6),
+        quit: word(rec, IDS + 7),
+    }
+}
+
 fn session(rec: &[u8]) -> Session
     requires { ⌜ (length (now rec) ≡ size) × (wordOf (now rec) 7 < 31) ⌝ }
     ensures { λ r. ⌜ r ≡ sessionOf (wordOf (now (rec .entry))) ⌝ }
@@ -243,6 +261,7 @@ fn session(rec: &[u8]) -> Session
         buf,
         lent: place(rec, LENT),
         features: features(word(rec, FEATURES)),
+        ids: ids(rec),
         ended: word(rec, ENDED) == 1,
         pending: pending(rec),
     }

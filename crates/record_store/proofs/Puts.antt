@@ -5,9 +5,10 @@ use Prim.Native.Nat.{ℕ}
 use native.Mathlib.Omega.{arith}
 use lib.ListN.{length, length-append}
 use Rattle.protocol.specs.Bytes.{put}
-use Rattle.record.specs.Fields.{fields, ownNumbers, stepNumbers, registers}
+use Rattle.record.specs.Fields.{fields, ownNumbers, stepNumbers, idNumbers, registers}
 use Rattle.record.specs.Record.{size, words, stored}
-use Rattle.record.proofs.Stored.{length-padded, fields-length, stored-length}
+use Rattle.record.proofs.Stored.{stored-length}
+use Rattle.record.proofs.Numbers.{length-padded, own-length}
 use Rattle.record.proofs.Words.{put-next, put-whole}
 use Rattle.session.specs.declared.Session.{Session}
 
@@ -31,9 +32,12 @@ step-put b ns r ms e n p q h =
     put-next b 56 96 ns (registers r) p q (omega arith) (omega (arith, length-padded 12 r)) ∙ ap (λ (l : List ℕ). put b 56 (words l)) h
 
 -- a session's own numbers, and its pending step's behind them, are the record
-pub session-put : {l₁ l₂ : List ℕ} (b : List ℕ) (s : Session) → length b ≡ size
-    → l₁ ≡ put b 0 (words (ownNumbers s)) → l₂ ≡ put l₁ 56 (words (stepNumbers (s .pending))) → l₂ ≡ stored s
+pub session-put : {l₁ l₂ l₃ : List ℕ} (b : List ℕ) (s : Session) → length b ≡ size
+    → l₁ ≡ put b 0 (words (ownNumbers s)) → l₂ ≡ put l₁ 56 (words (stepNumbers (s .pending))) → l₃ ≡ put l₂ 192 (words (idNumbers (s .ids))) → l₃ ≡ stored s
 unfolding stored fields
-session-put b s e p q =
-    put-next b 0 56 (ownNumbers s) (stepNumbers (s .pending)) p q (omega arith) (omega (arith, fields-length s))
+session-put b s e p q r =
+    let n = own-length s (s .pending) in
+    let o = length-append (ownNumbers s) (stepNumbers (s .pending)) in
+    put-next b 0 192 (ownNumbers s ++ stepNumbers (s .pending)) (idNumbers (s .ids))
+    (put-next b 0 56 (ownNumbers s) (stepNumbers (s .pending)) p q (omega arith) (omega arith)) r (omega arith) (omega arith)
     ∙ put-whole b (words (fields s)) (omega (arith, stored-length s))

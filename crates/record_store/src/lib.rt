@@ -6,12 +6,13 @@ ghost use lib.Dec.{eqb};
 ghost use lib.ListN.{length};
 ghost use Rattle.protocol.specs.Bytes.{pick, put, bytesOf};
 ghost use Rattle.features.specs.Meaning.{listed};
-ghost use Rattle.record.specs.Fields.{bit, bits, unsigned, registers, requestState, requestNumbers, wantState, phaseState, phaseNumbers, dentNumbers, dent2Numbers, ownNumbers, stepNumbers};
+ghost use Rattle.record.specs.Fields.{bit, bits, unsigned, registers, requestState, requestNumbers, wantState, phaseState, phaseNumbers, dentNumbers, dent2Numbers, ownNumbers, stepNumbers, idNumbers};
 ghost use Rattle.record.specs.Record.{size, words, stored};
 use features::Features;
 use format_number::put_u64;
 use format_record::DentV1;
 use format_record::DentV2;
+use ids::Ids;
 use record::SIZE;
 use request::Request;
 use session::Pending;
@@ -258,14 +259,25 @@ fn put_pending(rec: &mut [u8], pending: Pending)
     }
 }
 
-// The session into a record of 192 bytes; a record of another length is left alone.
+// The ids behind them.
+fn put_ids(rec: &mut [u8], t: Ids)
+    requires { ⌜ length (now rec) ≡ size ⌝ }
+    ensures { λ _. ⌜ now (rec .exit) ≡ put (now (rec .entry)) 192 (words (idNumbers t)) ⌝ }
+{
+    put_four(rec, 192, t.stat, t.list, t.send, t.recv);
+    put_four(rec, 224, t.data, t.okay, t.dent, t.quit);
+}
+
+// The session into a record of 256 bytes; a record of another length is left alone.
 pub fn store(s: Session, rec: &mut [u8])
     ensures { λ _. ⌜ now (rec .exit) ≡ pick (eqb (length (now (rec .entry))) size) (stored s) (now (rec .entry)) ⌝ }
 {
     if rec.len() == SIZE {
         let pending = s.pending;
+        let ids = s.ids;
         put_own(rec, s);
         put_pending(rec, pending);
+        put_ids(rec, ids);
     }
 }
 

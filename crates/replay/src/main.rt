@@ -8,6 +8,7 @@ use format_flags::FileMode;
 use format_flags::SyncFlags;
 use format_number::put_bytes;
 use format_number::u64_at;
+use ids::Ids;
 use libc::STDIN_FILENO;
 use libc::STDOUT_FILENO;
 use recv_buf::RecvBuf;
@@ -96,6 +97,7 @@ fn ended() -> Stepped {
         buf: RecvBuf::new(),
         lent: 0,
         features: Features::of(b""),
+        ids: Ids::published(),
         ended: true,
         pending: Pending::Idle,
     };
@@ -107,7 +109,7 @@ fn ended() -> Stepped {
 
 // A session on buffers of one length.
 fn opened(banner: &[u8], capacity: usize) -> Stepped {
-    let answer = open(banner, capacity, capacity);
+    let answer = open(banner, Ids::published(), capacity, capacity);
     match answer {
         Opened::Session(session) => Stepped {
             session,

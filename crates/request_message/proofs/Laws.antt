@@ -1,6 +1,6 @@
 -- Laws of composing: parts put one behind the other are one message. Assumes nothing.
 use mathlib.Core.List.{List, [], _∷_, _++_, append-assoc, append-nil}
-use mathlib.Core.Path.{_≡_, sym, ap, _∙_}
+use mathlib.Core.Path.{_≡_, refl, sym, ap, _∙_}
 use Prim.Native.Nat.{ℕ, _+_, _-_, _%_, _≤_, _<_}
 use native.Mathlib.Decide.{decLe}
 use native.Mathlib.Nat.{zero-add, lt-of-not-le}
@@ -10,15 +10,13 @@ use lib.ListN.{length, take, drop, length-append}
 use lib.Seq.{take-append-seam}
 use Rattle.protocol.specs.Bytes.{over, put}
 use Rattle.protocol.specs.Decimal.{decimal}
-use Rattle.protocol.specs.Ids.{Id, letters, published, RCV2, SEND, SND2}
 use Rattle.protocol.specs.Messages.{rcv2, send, snd2, word, comma, joined, messageOf, bytesOfRequest}
-use Rattle.protocol.proofs.Bytes.{over-length, over-over, put-in, put-out, putLength-in, putLength-out, end-whole, end-back, end-put, end-putLength}
-use Rattle.protocol.proofs.Ids.{published-sound}
-use Rattle.protocol.proofs.Messages.{header-length, word-low}
-use Rattle.request_message.specs.Composed.{placed, begun}
+use Rattle.protocol.proofs.Bytes.{over-length, over-over, put-in, put-out, putLength-in, putLength-out, end-whole, end-back, end-put, end-putLength, length-bytesOf}
+use Rattle.protocol.proofs.Messages.{word-low}
+use Rattle.request_message.specs.Composed.{only, placed, begun}
 
-pub header-bytes : (i : Id) (arg : ℕ) → length (letters i ++ word arg) ≡ 8
-header-bytes i arg = header-length published published-sound (record { id = i; arg = arg; parts = [] })
+pub header-bytes : (i : ℕ) (arg : ℕ) → length (word i ++ word arg) ≡ 8
+header-bytes i arg = refl
 
 -- the two cases of `placed` at the front, and of `begun`
 module _ (b m : List ℕ) where
@@ -111,38 +109,38 @@ begun-whole b m r e = go (decLe (length m) (length b)) ∙ ap (placed b 0) e
     go (no f) = sym (begun-out b m 0 (omega (arith, lt-of-not-le f))) ∙ placed-out b m (lt-of-not-le f)
 
 -- a header that fits, as code puts it
-pub header-puts : (b : List ℕ) (i : Id) (arg : ℕ) → 8 ≤ length b → (put (put b 0 (letters i)) 4 (word arg), 8) ≡ placed b 0 (letters i ++ word arg)
+pub header-puts : (b : List ℕ) (i : ℕ) (arg : ℕ) → 8 ≤ length b → (put (put b 0 (word i)) 4 (word arg), 8) ≡ placed b 0 (word i ++ word arg)
 header-puts b i arg h =
-    let f = published-sound .four i in
+    let f = length-bytesOf 4 i in
     let l = header-bytes i arg in
-    let e : 0 + length (letters i) ≡ 4 = omega arith in
-    rw (rw e at (puts-front (letters i ∷ word arg ∷ []) b (omega arith))) (rw l at (placed-in b (letters i ++ word arg) (omega arith)))
+    let e : 0 + length (word i) ≡ 4 = omega arith in
+    rw (rw e at (puts-front (word i ∷ word arg ∷ []) b (omega arith))) (rw l at (placed-in b (word i ++ word arg) (omega arith)))
 
 -- what stands at the front when a message is begun: eight bytes of header, and what is lent
-pub front-bytes : (i : Id) (arg : ℕ) (lent : List ℕ) → length (letters i ++ word arg ++ lent) ≡ 8 + length lent
-front-bytes i arg lent = length-append (letters i ++ word arg) lent ∙ ap (λ (n : ℕ). n + length lent) (header-bytes i arg)
+pub front-bytes : (i : ℕ) (arg : ℕ) (lent : List ℕ) → length (word i ++ word arg ++ lent) ≡ 8 + length lent
+front-bytes i arg lent = length-append (word i ++ word arg) lent ∙ ap (λ (n : ℕ). n + length lent) (header-bytes i arg)
 
-pub begin-puts : (b : List ℕ) (i : Id) (count : ℕ) (lent : List ℕ) (rest : ℕ) (e : List ℕ) (r : ℕ)
-    → (e, r) ≡ placed b 0 (letters i ++ word (count % 0x1_0000_0000)) → 8 + rest + length lent ≤ length b
-    → (put e 8 lent, 8 + length lent) ≡ begun b rest (letters i ++ word count ++ lent)
+pub begin-puts : (b : List ℕ) (i : ℕ) (count : ℕ) (lent : List ℕ) (rest : ℕ) (e : List ℕ) (r : ℕ)
+    → (e, r) ≡ placed b 0 (word i ++ word (count % 0x1_0000_0000)) → 8 + rest + length lent ≤ length b
+    → (put e 8 lent, 8 + length lent) ≡ begun b rest (word i ++ word count ++ lent)
 begin-puts b i count lent rest e r q h =
-    let m : List ℕ = letters i ++ word count in
+    let m : List ℕ = word i ++ word count in
     let l : length m ≡ 8 = header-bytes i count in
     let f = front-bytes i count lent in
-    let w = q ∙ ap (λ l. placed b 0 (letters i ++ l)) (word-low count) ∙ sym (placed-in b m (omega arith)) in
+    let w = q ∙ ap (λ l. placed b 0 (word i ++ l)) (word-low count) ∙ sym (placed-in b m (omega arith)) in
     ap (λ (s : List ℕ × ℕ). (put (s .0) 8 lent, 8 + length lent)) w
     ∙ rw (rw l at (behind b m lent (omega arith))) (rw f at (begun-in b (m ++ lent) rest (omega arith)))
 
 -- an id and a word behind what was begun, as code puts them
-module _ (b m : List ℕ) (e : List ℕ) (at rest : ℕ) (q : (e, at) ≡ begun b (8 + rest) m) (i : Id) (x : ℕ) where
-  v2-room : 8 + rest ≡ length (letters i ++ word x) + rest
+module _ (b m : List ℕ) (e : List ℕ) (at rest : ℕ) (q : (e, at) ≡ begun b (8 + rest) m) (i : ℕ) (x : ℕ) where
+  v2-room : 8 + rest ≡ length (word i ++ word x) + rest
   v2-room = ap (λ (n : ℕ). n + rest) (sym (header-bytes i x))
 
-  pub v2-puts : (at ≡ 0 → ⊥) → (put (put e at (letters i)) (at + 4) (word x), at + 8) ≡ begun b rest (m ++ (letters i ++ word x))
-  v2-puts n = rw (header-bytes i x, published-sound .four i) at (go-on b m (8 + rest) e at q (letters i ∷ word x ∷ []) rest v2-room n)
+  pub v2-puts : (at ≡ 0 → ⊥) → (put (put e at (word i)) (at + 4) (word x), at + 8) ≡ begun b rest (m ++ (word i ++ word x))
+  v2-puts n = rw (header-bytes i x, length-bytesOf 4 i) at (go-on b m (8 + rest) e at q (word i ∷ word x ∷ []) rest v2-room n)
 
-  pub v2-stop : 0 < length m → at ≡ 0 → (e, 0) ≡ begun b rest (m ++ (letters i ++ word x))
-  v2-stop = stop b m (8 + rest) e at q (letters i ∷ word x ∷ []) rest v2-room
+  pub v2-stop : 0 < length m → at ≡ 0 → (e, 0) ≡ begun b rest (m ++ (word i ++ word x))
+  v2-stop = stop b m (8 + rest) e at q (word i ∷ word x ∷ []) rest v2-room
 
 -- what was placed in a buffer of its own, read back
 pub placed-read : (z d e : List ℕ) (n : ℕ) → (e, n) ≡ placed z 0 d → length d ≤ length z → (n ≡ length d) × (take n e ≡ d)
@@ -153,23 +151,23 @@ placed-read z d e n q h =
     (l, rw (l, ap (λ (s : List ℕ × ℕ). s .0) w) (take-append-seam d (drop (0 + length d) z)))
 
 -- the bytes of a request, as code puts them one behind the other
-pub rcv2-bytes : (p : List ℕ) (f : ℕ) → letters RCV2 ++ word (length p) ++ p ++ (letters RCV2 ++ word f) ≡ bytesOfRequest published (rcv2 p f)
+pub rcv2-bytes : (i : ℕ) (p : List ℕ) (f : ℕ) → word i ++ word (length p) ++ p ++ (word i ++ word f) ≡ bytesOfRequest (only i) (rcv2 p f)
 unfolding bytesOfRequest messageOf
-rcv2-bytes p f = append-assoc (letters RCV2 ++ word (length p)) p (letters RCV2 ++ word f)
+rcv2-bytes i p f = append-assoc (word i ++ word (length p)) p (word i ++ word f)
 
-pub snd2-bytes : (p : List ℕ) (m f : ℕ)
-    → letters SND2 ++ word (length p) ++ p ++ (letters SND2 ++ word m) ++ word f ≡ bytesOfRequest published (snd2 p m f)
+pub snd2-bytes : (i : ℕ) (p : List ℕ) (m f : ℕ)
+    → word i ++ word (length p) ++ p ++ (word i ++ word m) ++ word f ≡ bytesOfRequest (only i) (snd2 p m f)
 unfolding bytesOfRequest messageOf
-snd2-bytes p m f =
-    append-assoc (letters SND2 ++ word (length p) ++ p) (letters SND2 ++ word m) (word f)
-    ∙ append-assoc (letters SND2 ++ word (length p)) p (letters SND2 ++ word m ++ word f)
+snd2-bytes i p m f =
+    append-assoc (word i ++ word (length p) ++ p) (word i ++ word m) (word f)
+    ∙ append-assoc (word i ++ word (length p)) p (word i ++ word m ++ word f)
 
-pub send-bytes : (p : List ℕ) (m : ℕ) (d : List ℕ) → d ≡ decimal m
-    → letters SEND ++ word (length p + (1 + length d)) ++ p ++ (comma ++ d) ≡ bytesOfRequest published (send p m)
+pub send-bytes : (i : ℕ) (p : List ℕ) (m : ℕ) (d : List ℕ) → d ≡ decimal m
+    → word i ++ word (length p + (1 + length d)) ++ p ++ (comma ++ d) ≡ bytesOfRequest (only i) (send p m)
 unfolding bytesOfRequest messageOf
-send-bytes p m d e =
+send-bytes i p m d e =
     let n : length p + (1 + length (decimal m)) ≡ length p + 1 + length (decimal m) = omega arith in
-    rw (e, n, append-nil) (append-assoc (letters SEND ++ word (length p + 1 + length (decimal m))) p (comma ++ decimal m))
+    rw (e, n, append-nil) (append-assoc (word i ++ word (length p + 1 + length (decimal m))) p (comma ++ decimal m))
 
 -- nothing is placed from past the end on
 pub placed-past : (b : List ℕ) (t : ℕ) (m : List ℕ) → length b < t → (b, 0) ≡ placed b t m

@@ -12,13 +12,13 @@ use lib.ListN.{length, drop, getD, getElem?, replicate, List·getD-map}
 use lib.Seq.{getD-drop}
 use Rattle.protocol.specs.Bytes.{pick}
 use Rattle.protocol.specs.Decimal.{decimal}
-use Rattle.protocol.specs.Ids.{Id, letters, published, STAT, STA2, LIST, LIS2, SEND, SND2, RECV, RCV2, DATA}
 use Rattle.protocol.specs.Messages.{word, comma, header, nonempty, messageOf, apart}
 use Rattle.protocol.proofs.Decimal.{decimal-nonempty}
 use Rattle.protocol.proofs.Messages.{word-low}
 use Rattle.request.specs.Meaning.{meant}
 use Rattle.request.specs.declared.Request.{Request}
 use Rattle.request.specs.declared.Request.the-variants as Q
+use Rattle.request_message.specs.Composed.{only}
 use Rattle.request_piece.specs.Pieces.{low32, headerOf, partsOf, pieceList, pieceOf, shown}
 use Rattle.request_piece.specs.declared.Piece.{Piece}
 use Rattle.request_piece.specs.declared.Piece.the-variants.{Lent, End}
@@ -32,24 +32,24 @@ padded n (p ∷ ps) zero = refl
 padded n (p ∷ ps) (suc j) = padded n ps j
 
 -- the header's arg has 32 bits
-low : (i : Id) (n : ℕ) → some (letters i ++ word (low32 n)) ≡ some (letters i ++ word n)
-low i n = ap (λ l. some (letters i ++ l)) (word-low n)
+low : (i n : ℕ) → some (word i ++ word (low32 n)) ≡ some (word i ++ word n)
+low i n = ap (λ l. some (word i ++ l)) (word-low n)
 
-header-shown : (q : Request) (lent : List ℕ) → shown lent (headerOf q (length lent)) ≡ some (header published (messageOf published (meant q lent)))
+header-shown : (i : ℕ) (q : Request) (lent : List ℕ) → shown lent (headerOf i q (length lent)) ≡ some (header (only i) (messageOf (only i) (meant q lent)))
 unfolding messageOf
-header-shown Q.Stat lent = low STAT (length lent)
-header-shown Q.Sta2 lent = low STA2 (length lent)
-header-shown Q.List lent = low LIST (length lent)
-header-shown Q.Lis2 lent = low LIS2 (length lent)
-header-shown Q.Recv lent = low RECV (length lent)
-header-shown (Q.Rcv2 f) lent = low RCV2 (length lent)
-header-shown (Q.Send m) lent =
+header-shown i Q.Stat lent = low i (length lent)
+header-shown i Q.Sta2 lent = low i (length lent)
+header-shown i Q.List lent = low i (length lent)
+header-shown i Q.Lis2 lent = low i (length lent)
+header-shown i Q.Recv lent = low i (length lent)
+header-shown i (Q.Rcv2 f) lent = low i (length lent)
+header-shown i (Q.Send m) lent =
     let e : length lent + (1 + length (decimal (m .0))) ≡ length lent + 1 + length (decimal (m .0)) = omega arith in
-    low SEND (length lent + (1 + length (decimal (m .0)))) ∙ ap (λ n. some (letters SEND ++ word n)) e
-header-shown (Q.Snd2 m f) lent = low SND2 (length lent)
-header-shown Q.Data lent = low DATA (length lent)
-header-shown (Q.Done t) lent = refl
-header-shown Q.Quit lent = refl
+    low i (length lent + (1 + length (decimal (m .0)))) ∙ ap (λ n. some (word i ++ word n)) e
+header-shown i (Q.Snd2 m f) lent = low i (length lent)
+header-shown i Q.Data lent = low i (length lent)
+header-shown i (Q.Done t) lent = refl
+header-shown i Q.Quit lent = refl
 
 -- what is lent is a piece where it is not empty
 lent-shown : (lent : List ℕ) (ps : List Piece) (rest : List (List ℕ)) → map (shown lent) ps ≡ map some (nonempty rest)
@@ -68,26 +68,26 @@ no-parts : (t : Bool) → pick {A = List Piece} t [] [] ≡ []
 no-parts true = refl
 no-parts false = refl
 
-parts-shown : (q : Request) (lent : List ℕ)
-    → map (shown lent) (pick (eqb (length lent) 0) (drop 1 (partsOf q)) (partsOf q)) ≡ map some (nonempty (messageOf published (meant q lent) .parts))
+parts-shown : (i : ℕ) (q : Request) (lent : List ℕ)
+    → map (shown lent) (pick (eqb (length lent) 0) (drop 1 (partsOf i q)) (partsOf i q)) ≡ map some (nonempty (messageOf (only i) (meant q lent) .parts))
 unfolding messageOf
-parts-shown Q.Stat lent = lent-shown lent [] [] refl
-parts-shown Q.Sta2 lent = lent-shown lent [] [] refl
-parts-shown Q.List lent = lent-shown lent [] [] refl
-parts-shown Q.Lis2 lent = lent-shown lent [] [] refl
-parts-shown Q.Recv lent = lent-shown lent [] [] refl
-parts-shown (Q.Rcv2 f) lent = lent-shown lent (drop 1 (partsOf (Q.Rcv2 f))) (letters RCV2 ∷ word (f .0) ∷ []) refl
-parts-shown (Q.Send m) lent =
-    lent-shown lent (drop 1 (partsOf (Q.Send m))) (comma ∷ decimal (m .0) ∷ []) (ap (λ l. map some (comma ∷ l)) (digits-kept (m .0)))
-parts-shown (Q.Snd2 m f) lent = lent-shown lent (drop 1 (partsOf (Q.Snd2 m f))) (letters SND2 ∷ word (m .0) ∷ word (f .0) ∷ []) refl
-parts-shown Q.Data lent = lent-shown lent [] [] refl
-parts-shown (Q.Done t) lent = ap (map (shown lent)) (no-parts (eqb (length lent) 0))
-parts-shown Q.Quit lent = ap (map (shown lent)) (no-parts (eqb (length lent) 0))
+parts-shown i Q.Stat lent = lent-shown lent [] [] refl
+parts-shown i Q.Sta2 lent = lent-shown lent [] [] refl
+parts-shown i Q.List lent = lent-shown lent [] [] refl
+parts-shown i Q.Lis2 lent = lent-shown lent [] [] refl
+parts-shown i Q.Recv lent = lent-shown lent [] [] refl
+parts-shown i (Q.Rcv2 f) lent = lent-shown lent (drop 1 (partsOf i (Q.Rcv2 f))) (word i ∷ word (f .0) ∷ []) refl
+parts-shown i (Q.Send m) lent =
+    lent-shown lent (drop 1 (partsOf i (Q.Send m))) (comma ∷ decimal (m .0) ∷ []) (ap (λ l. map some (comma ∷ l)) (digits-kept (m .0)))
+parts-shown i (Q.Snd2 m f) lent = lent-shown lent (drop 1 (partsOf i (Q.Snd2 m f))) (word i ∷ word (m .0) ∷ word (f .0) ∷ []) refl
+parts-shown i Q.Data lent = lent-shown lent [] [] refl
+parts-shown i (Q.Done t) lent = ap (map (shown lent)) (no-parts (eqb (length lent) 0))
+parts-shown i Q.Quit lent = ap (map (shown lent)) (no-parts (eqb (length lent) 0))
 
 -- the pieces, in their order, are those of the protocol
-pub pieces-shown : (q : Request) (lent : List ℕ) → map (shown lent) (pieceList q (length lent)) ≡ map some (apart published (meant q lent))
+pub pieces-shown : (i : ℕ) (q : Request) (lent : List ℕ) → map (shown lent) (pieceList i q (length lent)) ≡ map some (apart (only i) (meant q lent))
 unfolding pieceList apart
-pieces-shown q lent = cc (header-shown q lent, parts-shown q lent)
+pieces-shown i q lent = cc (header-shown i q lent, parts-shown i q lent)
 
 some-nth : (l : List (List ℕ)) (k : ℕ) → getD (map some l) k none ≡ getElem? l k
 some-nth [] zero = refl
@@ -96,24 +96,24 @@ some-nth (x ∷ l) zero = refl
 some-nth (x ∷ l) (suc k) = some-nth l k
 
 -- ... and so is the k-th
-pub piece-shown : (q : Request) (lent : List ℕ) (k : ℕ) → shown lent (pieceOf q (length lent) k) ≡ getElem? (apart published (meant q lent)) k
+pub piece-shown : (i : ℕ) (q : Request) (lent : List ℕ) (k : ℕ) → shown lent (pieceOf i q (length lent) k) ≡ getElem? (apart (only i) (meant q lent)) k
 unfolding pieceOf
-piece-shown q lent k =
-    sym (List·getD-map (shown lent) (pieceList q (length lent)) k End)
-    ∙ ap (λ l. getD l k none) (pieces-shown q lent)
-    ∙ some-nth (apart published (meant q lent)) k
+piece-shown i q lent k =
+    sym (List·getD-map (shown lent) (pieceList i q (length lent)) k End)
+    ∙ ap (λ l. getD l k none) (pieces-shown i q lent)
+    ∙ some-nth (apart (only i) (meant q lent)) k
 
 -- the three cases of `pieceOf`, as code goes by them
-pub piece-header : (q : Request) (n k : ℕ) → k ≡ 0 → headerOf q n ≡ pieceOf q n k
+pub piece-header : (i : ℕ) (q : Request) (n k : ℕ) → k ≡ 0 → headerOf i q n ≡ pieceOf i q n k
 unfolding pieceOf pieceList
-piece-header q n k e = rw e
+piece-header i q n k e = rw e
 
-pub piece-empty : (q : Request) (n k : ℕ) → (k ≡ 0 → ⊥) → n ≡ 0 → getD (partsOf q) k End ≡ pieceOf q n k
+pub piece-empty : (i : ℕ) (q : Request) (n k : ℕ) → (k ≡ 0 → ⊥) → n ≡ 0 → getD (partsOf i q) k End ≡ pieceOf i q n k
 unfolding pieceOf pieceList
-piece-empty q n zero f e = absurd (f refl)
-piece-empty q n (suc j) f e = rw (e, getD-drop, one-add)
+piece-empty i q n zero f e = absurd (f refl)
+piece-empty i q n (suc j) f e = rw (e, getD-drop, one-add)
 
-pub piece-part : (q : Request) (n k : ℕ) → (k ≡ 0 → ⊥) → (n ≡ 0 → ⊥) → getD (partsOf q) (k - 1) End ≡ pieceOf q n k
+pub piece-part : (i : ℕ) (q : Request) (n k : ℕ) → (k ≡ 0 → ⊥) → (n ≡ 0 → ⊥) → getD (partsOf i q) (k - 1) End ≡ pieceOf i q n k
 unfolding pieceOf pieceList
-piece-part q n zero f e = absurd (f refl)
-piece-part q n (suc j) f e = let i : suc j - 1 ≡ j = omega arith in rw (i, ne-eqb n 0 e)
+piece-part i q n zero f e = absurd (f refl)
+piece-part i q n (suc j) f e = let i : suc j - 1 ≡ j = omega arith in rw (i, ne-eqb n 0 e)

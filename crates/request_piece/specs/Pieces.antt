@@ -6,10 +6,7 @@ use lib.Dec.{eqb}
 use lib.ListN.{length, drop, getD}
 use Rattle.protocol.specs.Bytes.{pick}
 use Rattle.protocol.specs.Decimal.{decimal}
-use Rattle.protocol.specs.Ids.{letters}
 use Rattle.protocol.specs.Messages.{comma, word}
-use Rattle.format_id.specs.Ids.{idOf}
-use Rattle.format_id.specs.declared.SyncId.the-variants as I
 use Rattle.request.specs.declared.Request.{Request}
 use Rattle.request.specs.declared.Request.the-variants as Q
 use Rattle.request_piece.specs.declared.Piece.{Piece}
@@ -23,49 +20,53 @@ low32 n = n % 0x1_0000_0000
 abbrev pub sendCount : ℕ → ℕ → ℕ
 sendCount n mode = low32 (n + (1 + length (decimal mode)))
 
--- the header of a request with n bytes lent beside it
-abbrev pub headerOf : Request → ℕ → Piece
-headerOf Q.Stat n = Header I.Stat (low32 n)
-headerOf Q.Sta2 n = Header I.Sta2 (low32 n)
-headerOf Q.List n = Header I.List (low32 n)
-headerOf Q.Lis2 n = Header I.Lis2 (low32 n)
-headerOf Q.Recv n = Header I.Recv (low32 n)
-headerOf (Q.Rcv2 f) n = Header I.Rcv2 (low32 n)
-headerOf (Q.Send m) n = Header I.Send (sendCount n (m .0))
-headerOf (Q.Snd2 m f) n = Header I.Snd2 (low32 n)
-headerOf Q.Data n = Header I.Data (low32 n)
-headerOf (Q.Done t) n = Header I.Done t
-headerOf Q.Quit n = Header I.Quit 0
+-- the arg of a request with n bytes lent beside it
+abbrev pub argOf : Request → ℕ → ℕ
+argOf Q.Stat n = low32 n
+argOf Q.Sta2 n = low32 n
+argOf Q.List n = low32 n
+argOf Q.Lis2 n = low32 n
+argOf Q.Recv n = low32 n
+argOf (Q.Rcv2 f) n = low32 n
+argOf (Q.Send m) n = sendCount n (m .0)
+argOf (Q.Snd2 m f) n = low32 n
+argOf Q.Data n = low32 n
+argOf (Q.Done t) n = t
+argOf Q.Quit n = 0
+
+-- its header, under an id's number
+abbrev pub headerOf : ℕ → Request → ℕ → Piece
+headerOf i q n = Header i (argOf q n)
 
 -- its parts: the first is what is lent; DONE and QUIT have none
-abbrev pub partsOf : Request → List Piece
-partsOf Q.Stat = Lent ∷ []
-partsOf Q.Sta2 = Lent ∷ []
-partsOf Q.List = Lent ∷ []
-partsOf Q.Lis2 = Lent ∷ []
-partsOf Q.Recv = Lent ∷ []
-partsOf (Q.Rcv2 f) = Lent ∷ Inner I.Rcv2 ∷ Word (f .0) ∷ []
-partsOf (Q.Send m) = Lent ∷ Comma ∷ Digits m ∷ []
-partsOf (Q.Snd2 m f) = Lent ∷ Inner I.Snd2 ∷ Word (m .0) ∷ Word (f .0) ∷ []
-partsOf Q.Data = Lent ∷ []
-partsOf (Q.Done t) = []
-partsOf Q.Quit = []
+abbrev pub partsOf : ℕ → Request → List Piece
+partsOf i Q.Stat = Lent ∷ []
+partsOf i Q.Sta2 = Lent ∷ []
+partsOf i Q.List = Lent ∷ []
+partsOf i Q.Lis2 = Lent ∷ []
+partsOf i Q.Recv = Lent ∷ []
+partsOf i (Q.Rcv2 f) = Lent ∷ Inner i ∷ Word (f .0) ∷ []
+partsOf i (Q.Send m) = Lent ∷ Comma ∷ Digits m ∷ []
+partsOf i (Q.Snd2 m f) = Lent ∷ Inner i ∷ Word (m .0) ∷ Word (f .0) ∷ []
+partsOf i Q.Data = Lent ∷ []
+partsOf i (Q.Done t) = []
+partsOf i Q.Quit = []
 
 -- the pieces: no empty part is one
-unfoldable pub pieceList : Request → ℕ → List Piece
-pieceList q n = headerOf q n ∷ pick (eqb n 0) (drop 1 (partsOf q)) (partsOf q)
+unfoldable pub pieceList : ℕ → Request → ℕ → List Piece
+pieceList i q n = headerOf i q n ∷ pick (eqb n 0) (drop 1 (partsOf i q)) (partsOf i q)
 
 -- the k-th, from 0; End behind the last
-unfoldable pub pieceOf : Request → ℕ → ℕ → Piece
-pieceOf q n k = getD (pieceList q n) k End
+unfoldable pub pieceOf : ℕ → Request → ℕ → ℕ → Piece
+pieceOf i q n k = getD (pieceList i q n) k End
 
 -- the bytes of a piece that goes by value
 abbrev pub byValue : Piece → List ℕ
-byValue (Header i arg) = letters (idOf i) ++ word arg
+byValue (Header i arg) = word i ++ word arg
 byValue Lent = []
 byValue Comma = comma
 byValue (Digits m) = decimal (m .0)
-byValue (Inner i) = letters (idOf i)
+byValue (Inner i) = word i
 byValue (Word x) = word x
 byValue End = []
 

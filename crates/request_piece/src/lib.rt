@@ -1,7 +1,6 @@
 // A message that goes out in pieces: the header, then each nonempty part (000's sync.rs, `write_message`).
 use decimal::format_u32;
 use format_flags::FileMode;
-use format_id::SyncId;
 use format_number::put_bytes;
 use format_number::put_u32;
 use request::Request;
@@ -9,20 +8,18 @@ use request_message::write_header;
 ghost use mathlib.Core.List.{[], _∷_};
 ghost use mathlib.Core.Path.{_≡_};
 ghost use lib.ListN.{length, getD, getElem?};
-ghost use Rattle.protocol.specs.Ids.{letters, published};
 ghost use Rattle.protocol.specs.Messages.{word, apart};
-ghost use Rattle.format_id.specs.Ids.{idOf};
 ghost use Rattle.request.specs.Meaning.{meant};
-ghost use Rattle.request_message.specs.Composed.{placed};
+ghost use Rattle.request_message.specs.Composed.{only, placed};
 ghost use Rattle.request_piece.specs.Pieces.{low32, sendCount, headerOf, partsOf, pieceOf, byValue, shown};
 
-// What is lent goes out as it lies; the rest goes by value.
+// What is lent goes out as it lies; the rest goes by value, an id by its number.
 pub enum Piece {
-    Header(SyncId, u32),
+    Header(u32, u32),
     Lent,
     Comma,
     Digits(FileMode),
-    Inner(SyncId),
+    Inner(u32),
     Word(u32),
     End,
 }
@@ -43,22 +40,22 @@ fn send_count(path: &[u8], mode: FileMode) -> u32
     low(path.len() + rest)
 }
 
-fn header(q: Request, lent: &[u8]) -> Piece
-    ensures { λ r. ⌜ r ≡ headerOf q (length (now (lent .entry))) ⌝ }
+fn header(id: u32, q: Request, lent: &[u8]) -> Piece
+    ensures { λ r. ⌜ r ≡ headerOf id q (length (now (lent .entry))) ⌝ }
 {
     let n = low(lent.len());
     match q {
-        Request::Stat => Piece::Header(SyncId::Stat, n),
-        Request::Sta2 => Piece::Header(SyncId::Sta2, n),
-        Request::List => Piece::Header(SyncId::List, n),
-        Request::Lis2 => Piece::Header(SyncId::Lis2, n),
-        Request::Recv => Piece::Header(SyncId::Recv, n),
-        Request::Rcv2(_) => Piece::Header(SyncId::Rcv2, n),
-        Request::Send(mode) => Piece::Header(SyncId::Send, send_count(lent, mode)),
-        Request::Snd2(_, _) => Piece::Header(SyncId::Snd2, n),
-        Request::Data => Piece::Header(SyncId::Data, n),
-        Request::Done(mtime) => Piece::Header(SyncId::Done, mtime),
-        Request::Quit => Piece::Header(SyncId::Quit, 0),
+        Request::Stat => Piece::Header(id, n),
+        Request::Sta2 => Piece::Header(id, n),
+        Request::List => Piece::Header(id, n),
+        Request::Lis2 => Piece::Header(id, n),
+        Request::Recv => Piece::Header(id, n),
+        Request::Rcv2(_) => Piece::Header(id, n),
+        Request::Send(mode) => Piece::Header(id, send_count(lent, mode)),
+        Request::Snd2(_, _) => Piece::Header(id, n),
+        Request::Data => Piece::Header(id, n),
+        Request::Done(mtime) => Piece::Header(id, mtime),
+        Request::Quit => Piece::Header(id, 0),
     }
 }
 
@@ -76,8 +73,8 @@ fn nth(j: usize, second: Piece, third: Piece, fourth: Piece) -> Piece
 }
 
 // The j-th part, whether it is empty or not.
-fn part(q: Request, j: usize) -> Piece
-    ensures { λ r. ⌜ r ≡ getD (partsOf q) j Piece.End ⌝ }
+fn part(id: u32, q: Request, j: usize) -> Piece
+    ensures { λ r. ⌜ r ≡ getD (partsOf id q) j Piece.End ⌝ }
 {
     match q {
         Request::Stat => nth(j, Piece::End, Piece::End, Piece::End),
@@ -85,16 +82,11 @@ fn part(q: Request, j: usize) -> Piece
         Request::List => nth(j, Piece::End, Piece::End, Piece::End),
         Request::Lis2 => nth(j, Piece::End, Piece::End, Piece::End),
         Request::Recv => nth(j, Piece::End, Piece::End, Piece::End),
-        Request::Rcv2(flags) => nth(
-            j,
-            Piece::Inner(SyncId::Rcv2),
-            Piece::Word(flags.0),
-            Piece::End,
-        ),
+        Request::Rcv2(flags) => nth(j, Piece::Inner(id), Piece::Word(flags.0), Piece::End),
         Request::Send(mode) => nth(j, Piece::Comma, Piece::Digits(mode), Piece::End),
         Request::Snd2(mode, flags) => nth(
             j,
-            Piece::Inner(SyncId::Snd2),
+            Piece::Inner(id),
             Piece::Word(mode.0),
             Piece::Word(flags.0),
         ),
@@ -105,18 +97,18 @@ fn part(q: Request, j: usize) -> Piece
 }
 
 // The k-th piece, from 0; End behind the last.
-pub fn piece_at(q: Request, lent: &[u8], k: usize) -> Piece
-    ensures { λ r. ⌜ r ≡ pieceOf q (length (now (lent .entry))) k ⌝ }
-    ensures { λ r. ⌜ shown (now (lent .entry)) r ≡ getElem? (apart published (meant q (now (lent .entry)))) k ⌝ }
+pub fn piece_at(id: u32, q: Request, lent: &[u8], k: usize) -> Piece
+    ensures { λ r. ⌜ r ≡ pieceOf id q (length (now (lent .entry))) k ⌝ }
+    ensures { λ r. ⌜ shown (now (lent .entry)) r ≡ getElem? (apart (only id) (meant q (now (lent .entry)))) k ⌝ }
 {
     if k == 0 {
-        return header(q, lent);
+        return header(id, q, lent);
     }
     if lent.len() == 0 {
-        return part(q, k);
+        return part(id, q, k);
     }
     let j = k - 1;
-    part(q, j)
+    part(id, q, j)
 }
 
 fn place(out: &mut [u8], src: &[u8]) -> usize
@@ -139,13 +131,6 @@ fn place_u32(out: &mut [u8], x: u32) -> usize
     4
 }
 
-fn place_id(out: &mut [u8], id: SyncId) -> usize
-    ensures { λ r. ⌜ (now (out .exit), r) ≡ placed (now (out .entry)) 0 (letters (idOf id)) ⌝ }
-{
-    let letters = id.as_bytes();
-    place(out, &letters)
-}
-
 // A piece that goes by value, at the front of out, and its length; 0, and nothing altered, where it does not fit.
 pub fn piece_bytes(p: Piece, out: &mut [u8]) -> usize
     ensures { λ r. ⌜ (now (out .exit), r) ≡ placed (now (out .entry)) 0 (byValue p) ⌝ }
@@ -155,7 +140,7 @@ pub fn piece_bytes(p: Piece, out: &mut [u8]) -> usize
         Piece::Lent => 0,
         Piece::Comma => place(out, b","),
         Piece::Digits(mode) => format_u32(mode.0, out),
-        Piece::Inner(id) => place_id(out, id),
+        Piece::Inner(id) => place_u32(out, id),
         Piece::Word(x) => place_u32(out, x),
         Piece::End => 0,
     }

@@ -12,7 +12,7 @@ use lib.ListN.{length, take, drop}
 use lib.Seq.{drop-drop, take-take}
 use Rattle.protocol.specs.Bytes.{pick, Bytes, same, le, numberAt, whole}
 use Rattle.protocol.specs.Flags.{refusedFlags}
-use Rattle.protocol.specs.Ids.{RCV2, SND2, letters, published}
+use Rattle.protocol.specs.Ids.{published}
 use Rattle.protocol.specs.Messages.{PathOnly, Request, ask, rcv2, snd2, word}
 use Rattle.protocol.specs.Records.{headerSize, idAt, u32At}
 use Rattle.protocol.specs.Requests.{Read, more, refused, request, pathOnly, pathFlags, pathModeFlags, argOk, following, badPath, unlessBad, bodyOf}
@@ -90,7 +90,7 @@ told-staged s T.Refused q lent size = refl
 told-staged s T.Whole q lent size = refl
 
 pub on-path : (i : PathOnly) (n : ℕ) (s : List ℕ) → onArg (pathOnly i) n s ≡ staged (partOf n 0 s) (request (ask i (take n (drop headerSize s))) (headerSize + n))
-unfolding onArg argOk following bodyOf partOf
+unfolding onArg argOk following bodyOf badPath partOf
 on-path i n s = rw (add-zero n) (simp staged-pick)
 
 -- a word of a message that is there, as the code reads it and as the protocol does
@@ -125,24 +125,24 @@ on-words n behind f g pull s q x words = go (decLe (headerSize + (n + behind)) (
     go (yes there) = let (e, d) = words there in rw (e, d, size) (simp (whole-pick, staged-pick, pick-or))
     go (no short) = let h : length s < headerSize + (n + behind) = omega arith in rw (lt-ltb _ _ h) (simp (whole-pick, staged-pick))
 
-pub on-flags : (n f : ℕ) (s : List ℕ) → idAt s ≡ letters RCV2 → f ≡ whole 4 0 (u32At 0) s (n + 12)
+pub on-flags : (n f : ℕ) (s : List ℕ) → f ≡ whole 4 0 (u32At 0) s (n + 12)
     → onArg pathFlags n s ≡ staged (wordsOf n 8 f true s) (request (rcv2 (take n (drop headerSize s)) f) (n + 16))
-unfolding onArg argOk following bodyOf
-on-flags n f s id e =
+unfolding onArg argOk following bodyOf badPath
+on-flags n f s e =
     let g = numberAt 4 (n + 4) (take (n + 8) (drop headerSize s)) in
     let p = take n (drop headerSize s) in
-    rw (take-take n (n + 8) (drop headerSize s) (omega arith), four-in s n (n + 8) (omega arith), ← id)
+    rw (take-take n (n + 8) (drop headerSize s) (omega arith), four-in s n (n + 8) (omega arith))
     (on-words n 8 f g true s (rcv2 p g) (rcv2 p f)
     (λ there. let w = word-at n 4 8 s (omega arith) there ∙ sym e in (w, ap (rcv2 p) w)))
 
-pub on-mode-flags : (n m f : ℕ) (s : List ℕ) → idAt s ≡ letters SND2 → m ≡ whole 4 0 (u32At 0) s (n + 12) → f ≡ whole 4 0 (u32At 0) s (n + 16)
+pub on-mode-flags : (n m f : ℕ) (s : List ℕ) → m ≡ whole 4 0 (u32At 0) s (n + 12) → f ≡ whole 4 0 (u32At 0) s (n + 16)
     → onArg pathModeFlags n s ≡ staged (wordsOf n 12 f false s) (request (snd2 (take n (drop headerSize s)) m f) (n + 20))
-unfolding onArg argOk following bodyOf
-on-mode-flags n m f s id d e =
+unfolding onArg argOk following bodyOf badPath
+on-mode-flags n m f s d e =
     let k = numberAt 4 (n + 4) (take (n + 12) (drop headerSize s)) in
     let g = numberAt 4 (n + 8) (take (n + 12) (drop headerSize s)) in
     let p = take n (drop headerSize s) in
-    rw (take-take n (n + 12) (drop headerSize s) (omega arith), four-in s n (n + 12) (omega arith), ← id)
+    rw (take-take n (n + 12) (drop headerSize s) (omega arith), four-in s n (n + 12) (omega arith))
     (on-words n 12 f g false s (snd2 p k g) (snd2 p m f)
     (λ there.
     let v = word-at n 4 12 s (omega arith) there ∙ sym d in

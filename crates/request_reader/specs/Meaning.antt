@@ -8,7 +8,7 @@ use lib.Dec.{leb, ltb}
 use lib.ListN.{length, take, drop}
 use Rattle.protocol.specs.Bytes.{pick, same}
 use Rattle.protocol.specs.Decimal.{canonical}
-use Rattle.protocol.specs.Ids.{published}
+use Rattle.protocol.specs.Ids.{Dialect, under, published}
 use Rattle.protocol.specs.Flags.{refusedFlags}
 use Rattle.protocol.specs.Records.{headerSize, idAt}
 use Rattle.protocol.specs.Requests as P
@@ -38,11 +38,17 @@ number (R.Request q lent size) = 0
 unfoldable pub lentPart : List ℕ → ℕ → List ℕ
 lentPart s lent = pick (leb (headerSize + lent) (length s)) (take lent (drop headerSize s)) []
 
+-- the slice's own table, with its first four bytes for every id: behind a header no other id than the message's own may stand, so it is as
+-- good as the table in which that id was found
+abbrev pub own : List ℕ → Dialect
+own s = under (λ i. idAt s)
+
 -- the answer behind a header of kind k and arg n
 unfoldable pub onArg : Kind → ℕ → List ℕ → P.Read
-onArg k n s = pick (argOk published k n) (wholeOf published k n s) P.refused
+onArg k n s = pick (argOk (own s) k n) (wholeOf (own s) k n s) P.refused
 
--- the tests that messages with a path of n bytes and `behind` bytes after it share
+-- the tests that messages with a path of n bytes and `behind` bytes after it share (of the dialect only the limit for paths counts here and in
+-- SEND's text, and every table has the published one)
 unfoldable pub partOf : ℕ → ℕ → List ℕ → Part
 partOf n behind s =
     pick (leb n (published .longest))

@@ -3,19 +3,18 @@ ghost use mathlib.Core.Bool.{not, _||_};
 ghost use mathlib.Core.List.{List};
 ghost use mathlib.Core.Option.{some};
 ghost use mathlib.Core.Path.{_≡_};
-ghost use Prim.Native.Nat.{ℕ, _+_, _-_, _≤_, _<_};
+ghost use Prim.Native.Nat.{_+_, _-_, _≤_, _<_};
 ghost use lib.ListN.{length, take, drop};
 ghost use Rattle.decimal.specs.Meaning.{parsed};
 ghost use Rattle.format_id.specs.Ids.{idOf};
 ghost use Rattle.protocol.specs.Bytes.{same};
 ghost use Rattle.protocol.specs.Flags.{refusedFlags};
-ghost use Rattle.protocol.specs.Ids.{RCV2, SND2, letters, named, published};
-ghost use Rattle.protocol.specs.Messages.{PathOnly, ask};
 ghost use Rattle.protocol.specs.Records.{idAt};
 ghost use Rattle.protocol.specs.Requests as P;
+ghost use Rattle.ids.specs.Ids.{dialectOf};
 ghost use Rattle.request.specs.Meaning.{meant};
 ghost use Rattle.request_reader.specs.Meaning as Meaning;
-ghost use Rattle.request_reader.specs.Meaning.{told, lentPart, onArg, partOf, wordsOf, staged, readOf, placeOf, modeAfter, sendOf};
+ghost use Rattle.request_reader.specs.Meaning.{told, lentPart, own, onArg, partOf, wordsOf, staged, readOf, placeOf, modeAfter, sendOf};
 use decimal::Parsed;
 use decimal::parse_u32;
 use format_flags::FileMode;
@@ -23,6 +22,7 @@ use format_flags::SyncFlags;
 use format_id::Found;
 use format_id::SyncId;
 use format_number::u32_at;
+use ids::Ids;
 use request::Request;
 use request_path::MAX_PATH;
 use request_path::bad_path;
@@ -142,7 +142,7 @@ fn read_path(s: &[u8], request: Request, n: usize) -> Read
 
 // A word that is not there is read as 0, and then the message is not whole.
 fn read_rcv2(s: &[u8], n: usize) -> Read
-    requires { ⌜ (idAt (now s) ≡ letters RCV2) × (n < 0x1_0000_0000) ⌝ }
+    requires { ⌜ n < 0x1_0000_0000 ⌝ }
     ensures { λ r. ⌜ told (now (s .entry)) r ≡ onArg P.pathFlags n (now (s .entry)) ⌝ }
 {
     let flags = SyncFlags(u32_at(s, n + 12));
@@ -151,7 +151,7 @@ fn read_rcv2(s: &[u8], n: usize) -> Read
 }
 
 fn read_snd2(s: &[u8], n: usize) -> Read
-    requires { ⌜ (idAt (now s) ≡ letters SND2) × (n < 0x1_0000_0000) ⌝ }
+    requires { ⌜ n < 0x1_0000_0000 ⌝ }
     ensures { λ r. ⌜ told (now (s .entry)) r ≡ onArg P.pathModeFlags n (now (s .entry)) ⌝ }
 {
     let mode = FileMode(u32_at(s, n + 12));
@@ -254,10 +254,10 @@ fn read_quit(s: &[u8], arg: u32) -> Read
     Read::Refused
 }
 
-// The request of a slice that begins with the id and has a whole header.
+// The request of a slice that has a whole header, where its first four bytes are the id's.
 fn read_known(s: &[u8], id: SyncId) -> Read
-    requires { ⌜ (8 ≤ length (now s)) × (named published (idAt (now s)) ≡ some (idOf id)) ⌝ }
-    ensures { λ r. ⌜ told (now (s .entry)) r ≡ P.onId published (now (s .entry)) (some (idOf id)) ⌝ }
+    requires { ⌜ 8 ≤ length (now s) ⌝ }
+    ensures { λ r. ⌜ told (now (s .entry)) r ≡ P.onId (own (now (s .entry))) (now (s .entry)) (some (idOf id)) ⌝ }
 {
     let arg = u32_at(s, 4);
     let n = arg as usize;
@@ -284,14 +284,14 @@ fn read_known(s: &[u8], id: SyncId) -> Read
     }
 }
 
-// The request at the front of s, with its length.
-pub fn read_request(s: &[u8]) -> Read
-    ensures { λ r. ⌜ told (now (s .entry)) r ≡ P.readRequest published (now (s .entry)) ⌝ }
+// The request at the front of s, with its length, by the ids that host and panel agreed on.
+pub fn read_request(ids: Ids, s: &[u8]) -> Read
+    ensures { λ r. ⌜ told (now (s .entry)) r ≡ P.readRequest (dialectOf ids) (now (s .entry)) ⌝ }
 {
     if s.len() < 8 {
         return Read::More;
     }
-    match SyncId::from_bytes([s[0], s[1], s[2], s[3]]) {
+    match ids.from_bytes([s[0], s[1], s[2], s[3]]) {
         Found::Nothing => Read::Refused,
         Found::Id(id) => read_known(s, id),
     }

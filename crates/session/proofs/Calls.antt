@@ -30,7 +30,7 @@ use Rattle.session.specs.Faithful.{Composed, meetsHeader, Faithful}
 use Rattle.session.specs.Host.{Host, World, Run, over-with, unended, enough, runCall, Entry, onRun, logOf}
 use Rattle.session.specs.Phases.{wants}
 use Rattle.session.specs.Reports.{writeFault}
-use Rattle.session.specs.State.{St, st, beside, begun, Good}
+use Rattle.session.specs.State.{dialectIn, St, st, beside, begun, Good}
 use Rattle.session.specs.Steps.{readOn}
 use Rattle.session.specs.Sends.{tidied, carried, messageOut, sent, told, resumed}
 use Rattle.session.proofs.Data.{data-compacts, data-stays, sending, data-ok}
@@ -63,7 +63,7 @@ module _ (h : Host) (w : World) (s : St) (good : Good s) (live : s .ses .ended �
   -- a call that reads a header, all it writes accepted
   reads : (q : Call) → LetIn (at q) → (f i : ℕ) (xs : List (List ℕ)) (t : St) (x : Want) → isQuit q ≡ false → later (at q) ≤ f → Mid (at q) (rests (at q) accepted) t → xs ≡ all (at q)
       → ((msg y : List ℕ) → plain (s .ses .capacity) (written (configOf (s .ses) (h .close)) q) y
-      ≡ plain (s .ses .capacity) (restOf (s .ses .capacity) msg (Header x)) y)
+      ≡ plain (s .ses .capacity) (restOf (dialectIn (s .ses)) (s .ses .capacity) msg (Header x)) y)
       → meetsHeader (written (configOf (s .ses) (h .close)) q) ≡ true
       → Goes (at q) f i xs [] (readOn t (Header x) false)
   reads q lets f i xs t x stays l m e goes meets = header-ok (at q) lets stays f i xs [] t x false live l m e goes fault-told meets
@@ -73,7 +73,7 @@ module _ (h : Host) (w : World) (s : St) (good : Good s) (live : s .ses .ended �
       → messages q ≡ meant rq (lent (at q)) ∷ [] → carried rq 0 (lent (at q)) ≡ lent (at q)
       → ((t : St) → resumed t rq 0 (lent (at q)) ≡ readOn t (Header x) false)
       → ((msg y : List ℕ) → plain (s .ses .capacity) (written (configOf (s .ses) (h .close)) q) y
-      ≡ plain (s .ses .capacity) (restOf (s .ses .capacity) msg (Header x)) y)
+      ≡ plain (s .ses .capacity) (restOf (dialectIn (s .ses)) (s .ses .capacity) msg (Header x)) y)
       → meetsHeader (written (configOf (s .ses) (h .close)) q) ≡ true → length (w .left) + 7 ≤ enough q w
       → Goes (at q) (enough q w) (w .writes) [] [] (beside (messageOut (begun (s .ses) (length (lent (at q)))) (s .rx) rq 0 (lent (at q))) (s .msg))
   stat-ok q lets behind rq x breaks rest-at stays one carries resumes goes meets l =
@@ -131,12 +131,12 @@ module _ (h : Host) (w : World) (s : St) (good : Good s) (live : s .ses .ended �
       let c : Site = at (call (done t)) in
       bare-ok c lets good live (Q.Done t) (s .ses .buf .tail) (push-breaks c lets refl (Q.Done t) _ (λ e. rests-is c lets (broke e)) live (λ t e. refl) (λ e. refl) (λ e. refl))
       (λ f i t l x. reads (c .call) lets f i (all c) (tidied t) W.Okay refl l (mid-at c (tidied t) (mid-tidied c t x) (rests-is c lets accepted)) refl (λ msg y. refl) refl)
-      (enough (c .call) w) refl refl refl refl (omega arith)
+      (enough (c .call) w) refl refl refl (λ j. refl) (omega arith)
   open-ok (call quit) lets =
       let c : Site = at (call quit) in
       bare-ok c lets good live Q.Quit (s .ses .buf .tail) (quit-breaks lets)
       (λ f i t l x. close-ok c lets f i (all c) [] false 0 t live refl (omega arith) (mid-at c t x (rests-is c lets accepted)) refl refl)
-      (enough (c .call) w) refl refl refl refl (omega arith)
+      (enough (c .call) w) refl refl refl (λ j. refl) (omega arith)
   open-ok (nextEntry v1) lets =
       let c : Site = at (nextEntry v1) in
       reads (c .call) lets (enough (c .call) w) (w .writes) [] (started c) (W.Entry V1) refl (omega arith) (mid-at c (started c) (mid-started c good) (rests-is c lets accepted)) (sym (all-is c lets)) (λ msg y. refl) refl

@@ -10,7 +10,6 @@ use borrow.Author.Tests.{eq-eqb, ne-eqb}
 use lib.ListN.{length, drop, length-take, length-drop}
 use Rattle.protocol.specs.Bytes.{pick}
 use Rattle.protocol.specs.Calls.{call, cutBy, chunks}
-use Rattle.protocol.specs.Ids.{published}
 use Rattle.protocol.specs.Messages.{chunk, pieces, dataMost}
 use Rattle.protocol.specs.Reader.{Report, accepted, written}
 use Rattle.request.specs.declared.Request.the-variants as Q
@@ -18,7 +17,7 @@ use Rattle.session.specs.declared.Answer.the-variants as A
 use Rattle.session.specs.Faithful.{piecesOf, compacts}
 use Rattle.session.specs.Host.{Host, World}
 use Rattle.session.specs.Shown.{paper}
-use Rattle.session.specs.State.{St, beside}
+use Rattle.session.specs.State.{dialectIn, St, beside}
 use Rattle.session.specs.Sends.{carried, sent, resumed}
 use Rattle.session.proofs.Follows.{Breaks, told-ok}
 use Rattle.session.proofs.Sends.{message-ok}
@@ -44,7 +43,7 @@ module _ (h : Host) (w : World) (s : St) (x : List ℕ) where
   left m from = cutBy m (drop from x)
 
   abbrev pieces-left : ℕ → ℕ → List (List ℕ)
-  pieces-left m from = piecesOf published (free sending) (chunks (left m from))
+  pieces-left m from = piecesOf (dialectIn (s .ses)) (free sending) (chunks (left m from))
 
   -- what is claimed of them
   abbrev pub Cuts : ℕ → ℕ → Type 0
@@ -59,19 +58,19 @@ module _ (h : Host) (w : World) (s : St) (x : List ℕ) where
         let k : length (carried Q.Data from x) ≡ 0 = rw (part-is x from) (omega (arith, length-take dataMost (drop from x))) in
         rw (eq-eqb (length (carried Q.Data from x)) 0 k)
         (told-ok sending lets refl f i xs [] t A.Done (omega arith) (mid-at sending t y (rest-at none))
-        (sym (e ∙ ap (λ (b : List (List ℕ)). xs ++ piecesOf published (free sending) (chunks b)) (cut-none m (drop from x) none) ∙ append-nil xs)) refl)
+        (sym (e ∙ ap (λ (b : List (List ℕ)). xs ++ piecesOf (dialectIn (s .ses)) (free sending) (chunks b)) (cut-none m (drop from x) none) ∙ append-nil xs)) refl)
 
     data-some : (m from : ℕ) → 0 < length (drop from x) → Cuts m (next x from) → Cuts (suc m) from
     unfolding sent resumed
     data-some m from p go z f i xs t y rest-at e l =
         let part : List ℕ = carried Q.Data from x in
-        let ps : List (List ℕ) = pieces published (free sending) (chunk part) in
+        let ps : List (List ℕ) = pieces (dialectIn (s .ses)) (free sending) (chunk part) in
         let rest : List (List ℕ) = pieces-left m (next x from) in
         let n : length part ≡ min dataMost (length x - from) = rw (part-is x from, length-take, length-drop) in
         let moves : rests sending accepted ≡ length (held s) = rests-is sending lets accepted ∙ ap (λ (b : Bool). pick b (length (held s)) (s .ses .buf .tail)) (data-compacts accepted x (omega (arith, length-drop from x))) in
         let k : length (left (suc m) from) ≡ suc (length (left m (next x from))) = ap length (cut-some m x from p) in
         let upto : all sending ≡ xs ++ ps ++ rest =
-        e ∙ ap (λ (b : List (List ℕ)). xs ++ piecesOf published (free sending) (chunks b)) (cut-some m x from p) ∙ sym (append-assoc xs ps rest) in
+        e ∙ ap (λ (b : List (List ℕ)). xs ++ piecesOf (dialectIn (s .ses)) (free sending) (chunks b)) (cut-some m x from p) ∙ sym (append-assoc xs ps rest) in
         rw (ne-eqb (length part) 0 (omega (arith, length-drop from x)))
         (message-ok sending live Q.Data (length (held s)) (later sending + 5 * length (left m (next x from)))
         (λ f′ i′ xs′ b′ r′ t′ e′ l′. breaks (omega (arith, length-drop from x)) f′ i′ xs′ b′ r′ t′ e′ (omega arith))

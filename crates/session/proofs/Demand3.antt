@@ -7,6 +7,8 @@ use mathlib.Core.Path.{_≡_, refl, sym, ap, _∙_, subst}
 use native.Mathlib.Omega.{arith}
 use borrow.Author.Tests.{le-ltb, le-leb}
 use lib.ListN.{length, getD}
+use Rattle.ids.specs.Ids.{idsOf}
+use Rattle.ids.proofs.Laws.{dialect-back}
 use Rattle.protocol.specs.Answers.{Answer, End, done}
 use Rattle.protocol.specs.Calls.{Call}
 use Rattle.protocol.specs.Features.{featuresOf}
@@ -18,7 +20,7 @@ use Rattle.features.specs.Meaning.{listed}
 use Rattle.recv_buf.specs.RecvBuf.{heldBytes}
 use Rattle.session.specs.Calls.{fresh, openRefusal}
 use Rattle.session.specs.Core.{core, featuresFrom, coreSystem}
-use Rattle.session.specs.Demand3.{System, CodedFault, CodedReport, AllWide, Side, reader, logFrom, answersOf, failLength, Demand3, Claim}
+use Rattle.session.specs.Demand3.{Opening, System, CodedFault, CodedReport, AllWide, Side, reader, logFrom, answersOf, failLength, Demand3, Claim}
 use Rattle.session.specs.EveryHost.{CodedHost, EveryHost}
 use Rattle.session.specs.Faithful.{Faithful}
 use Rattle.session.specs.Host.{Host, Entry, atStart, logOf}
@@ -43,23 +45,23 @@ module _ (g : Config) (d : ℕ) (e e′ : End) (qs : List Call) (u x : List ℕ)
 
 -- ---- any system
 
-module _ {X : Type 0} (S : System X) (banner : List ℕ) (close : Report) (qs : List Call) (c d : ℕ) (least : 8 ≤ c) (wide : c ≤ d) (a : Side S c close)
+module _ {X : Type 0} (S : System X) (opening : Opening) (close : Report) (qs : List Call) (c d : ℕ) (least : 8 ≤ c) (wide : c ≤ d) (a : Side S c close)
     (b : Side S d close) where
   abbrev A : List Entry
-  A = logFrom S banner qs a
+  A = logFrom S opening qs a
 
   abbrev B : List Entry
-  B = logFrom S banner qs b
+  B = logFrom S opening qs b
 
   abbrev g : Config
-  g = reader banner c close
+  g = reader opening c close
 
   abbrev g′ : Config
-  g′ = reader banner d close
+  g′ = reader opening d close
 
-  demand : S .opened (a .x) banner (a .rx) (a .msg) .number ≡ 0 → S .opened (b .x) banner (b .rx) (b .msg) .number ≡ 0
+  demand : S .opened (a .x) opening (a .rx) (a .msg) .number ≡ 0 → S .opened (b .x) opening (b .rx) (b .msg) .number ≡ 0
       → Faithful g (a .host .end) qs (a .incoming) A → Faithful g′ (b .host .end) qs (b .incoming) B
-      → (more : List ℕ) → b .incoming ≡ a .incoming ++ more → Demand3 S banner close qs c d a b
+      → (more : List ℕ) → b .incoming ≡ a .incoming ++ more → Demand3 S opening close qs c d a b
   demand opens-a opens-b f f′ more e =
       record {
         opens-a = opens-a;
@@ -81,7 +83,7 @@ module _ {X : Type 0} (S : System X) (banner : List ℕ) (close : Report) (qs : 
         uncut = λ k l runs. alike g d (a .host .end) (b .host .end) qs (a .incoming) more least wide (answersOf A) (answersOf B) answers longer k _ l
             (meets k l) runs;
         same = λ p q r. answers ∙ ap (λ (z : End). plainAnswers g z qs (a .incoming)) r ∙ ap (plainAnswers g (b .host .end) qs) q
-            ∙ ap (λ (n : ℕ). plainAnswers (reader banner n close) (b .host .end) qs (b .incoming)) p ∙ sym answers′;
+            ∙ ap (λ (n : ℕ). plainAnswers (reader opening n close) (b .host .end) qs (b .incoming)) p ∙ sym answers′;
       }
     where
       o : AllAccepted A
@@ -103,21 +105,21 @@ module _ {X : Type 0} (S : System X) (banner : List ℕ) (close : Report) (qs : 
       meets k l = ap argAt (log-unread (a .host .end) g qs (a .incoming) A o f k (omega arith))
 
 -- a host that accepts every write is a host
-module _ {X : Type 0} (S : System X) (every : EveryHost S) (banner : List ℕ) (close : Report) (qs : List Call) (c : ℕ) (least : 8 ≤ c)
+module _ {X : Type 0} (S : System X) (every : EveryHost S) (opening : Opening) (close : Report) (qs : List Call) (c : ℕ) (least : 8 ≤ c)
     (coded : CodedReport close) (v : AllWide qs) (a : Side S c close) where
-  side-ok : (S .opened (a .x) banner (a .rx) (a .msg) .number ≡ 0)
-      × Faithful (reader banner c close) (a .host .end) qs (a .incoming) (logFrom S banner qs a)
+  side-ok : (S .opened (a .x) opening (a .rx) (a .msg) .number ≡ 0)
+      × Faithful (reader opening c close) (a .host .end) qs (a .incoming) (logFrom S opening qs a)
   side-ok =
       let z : CodedHost (a .host) =
       record { reads = λ i. subst CodedFault (sym (a .reads i)) tt; writes = λ i. subst CodedReport (sym (a .accepts i)) tt; close = subst CodedReport (sym (a .closes)) coded; end = a .coded } in
       rw (sym (a .capacity), sym (a .closes))
-      (every banner (a .x) (a .rx) (a .msg) (a .placed) (omega (arith, a)) (omega (arith, a)) (a .wide) (a .host) z (a .lends) qs v (a .incoming) (a .bytes))
+      (every opening (a .x) (a .rx) (a .msg) (a .placed) (omega (arith, a)) (omega (arith, a)) (a .wide) (a .host) z (a .lends) qs v (a .incoming) (a .bytes))
 
 pub claimed : {X : Type 0} (S : System X) → EveryHost S → Claim S
-claimed S every banner close qs c d least wide coded v a b more e =
-    let x = side-ok S every banner close qs c least coded v a in
-    let y = side-ok S every banner close qs d (omega arith) coded v b in
-    demand S banner close qs c d least wide a b (x .0) (y .0) (x .1) (y .1) more e
+claimed S every opening close qs c d least wide coded v a b more e =
+    let x = side-ok S every opening close qs c least coded v a in
+    let y = side-ok S every opening close qs d (omega arith) coded v b in
+    demand S opening close qs c d least wide a b (x .0) (y .0) (x .1) (y .1) more e
 
 -- ---- the session's own steps
 
@@ -127,10 +129,10 @@ unfolding featuresOf
 features-listed banner = refl
 
 -- buffers that opening takes
-module _ (banner rx msg : List ℕ) (least : 8 ≤ length rx) (room : length rx ≤ length msg) where
+module _ (opening : Opening) (rx msg : List ℕ) (least : 8 ≤ length rx) (room : length rx ≤ length msg) where
   -- the session that it leaves
   abbrev pub begins : St
-  begins = st (fresh (length rx) (length msg) (featuresFrom (featuresOf banner))) rx msg
+  begins = st (fresh (length rx) (length msg) (featuresFrom (featuresOf (opening .banner))) (idsOf (opening .table))) rx msg
 
   pub opens : openRefusal (length rx) (length msg) ≡ 0
   unfolding openRefusal
@@ -146,15 +148,15 @@ module _ (banner rx msg : List ℕ) (least : 8 ≤ length rx) (room : length rx 
 
   -- against any host, also one whose reads, writes and close come to faults
   pub begins-faithful : (h : Host) (qs : List Call) (incoming : List ℕ)
-      → Faithful (reader banner (length rx) (h .close)) (h .end) qs incoming (logOf core h qs (atStart incoming) (begins .ses) rx msg)
+      → Faithful (reader opening (length rx) (h .close)) (h .end) qs incoming (logOf core h qs (atStart incoming) (begins .ses) rx msg)
   begins-faithful h qs incoming =
-      let g : Config = reader banner (length rx) (h .close) in
+      let g : Config = reader opening (length rx) (h .close) in
       subst (λ (y : List ℕ). Faithful g (h .end) qs (y ++ incoming) (logOf core h qs (atStart incoming) (begins .ses) rx msg)) begins-empty
-      (faithful h g qs (atStart incoming) begins begins-good refl (rw (features-listed banner)))
+      (faithful h g qs (atStart incoming) begins begins-good refl (rw (features-listed (opening .banner), dialect-back (opening .table) (opening .legal))))
 
 pub core-hosts : EveryHost coreSystem
-core-hosts banner x rx msg placed least room wide h z lends qs v incoming b =
-    (opens banner rx msg least room, rw (opens banner rx msg least room) (begins-faithful banner rx msg least room h qs incoming))
+core-hosts opening x rx msg placed least room wide h z lends qs v incoming b =
+    (opens opening rx msg least room, rw (opens opening rx msg least room) (begins-faithful opening rx msg least room h qs incoming))
 
 pub core-claim : Claim coreSystem
 core-claim = claimed coreSystem core-hosts

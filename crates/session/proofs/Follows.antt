@@ -12,6 +12,7 @@ use Rattle.protocol.specs.Bytes.{pick}
 use Rattle.protocol.specs.Messages.{pieces}
 use Rattle.protocol.specs.Reader.{Prog, answer, Result, plain, Report, accepted, broke, closing, written, pushBroke, writeBroke, onReport, program, endOf, isQuit, configAfter}
 use Rattle.request.specs.declared.Request.{Request}
+use Rattle.ids.specs.Ids.{dialectOf}
 use Rattle.session.specs.declared.Answer.{Answer}
 use Rattle.session.specs.declared.Answer.the-variants as A
 use Rattle.session.specs.declared.Fault.{Fault}
@@ -26,7 +27,7 @@ use Rattle.session.specs.Phases.{wants}
 use Rattle.session.specs.Reports.{faultAnswer, pushFault, writeFault, wroteAt, faultAt, closedOut}
 use Rattle.session.specs.Shown.{paper}
 use Rattle.session.specs.State as S
-use Rattle.session.specs.State.{St, st, Out, shut}
+use Rattle.session.specs.State.{dialectIn, St, st, Out, shut}
 use Rattle.session.specs.Steps.{readOn}
 use Rattle.session.specs.Sends.{told, closingOut, resumed}
 use Rattle.session.proofs.Buf.{good-pending}
@@ -38,7 +39,7 @@ use Rattle.session.proofs.Turns.{held, cont, restOf, Frame, frameOf, at
 
 -- a frame, after quit
 abbrev ended : Frame → Frame
-ended φ = record { capacity = φ .capacity; message = φ .message; lent = φ .lent; features = φ .features; ended = true }
+ended φ = record { capacity = φ .capacity; message = φ .message; lent = φ .lent; features = φ .features; ids = φ .ids; ended = true }
 
 -- What a fault of the request's writes comes to, tail at z: of the piece b, behind the pieces xs that were accepted.
 abbrev pub Breaks : Site → (z n : ℕ) → Request → Type 0
@@ -75,7 +76,7 @@ module _ (c : Site) (lets : LetIn c) where
     pub header-ok : (f i : ℕ) (xs : List (List ℕ)) (bs : List Broken) (t : St) (x : Want) (lost : Bool) → c .state .ses .ended ≡ false → later c ≤ f
         → Mid c (rests c (outcomeOf bs)) t → Accepted (all c) xs bs
         → ((msg y : List ℕ) → plain (c .state .ses .capacity) (onReport (reader c) (outcomeOf bs) (c .call)) y
-        ≡ plain (c .state .ses .capacity) (restOf (c .state .ses .capacity) msg (Header x)) y)
+        ≡ plain (c .state .ses .capacity) (restOf (dialectIn (c .state .ses)) (c .state .ses .capacity) msg (Header x)) y)
         → ((e : End) (rx msg : List ℕ) → paper rx msg (pick lost A.Closed (faultAnswer (faultOf e))) ≡ P.broken (endOf e (outcomeOf bs) (c .call)))
         → meetsHeader (onReport (reader c) (outcomeOf bs) (c .call)) ≡ true
         → Goes c f i xs bs (readOn t (Header x) lost)
@@ -88,11 +89,11 @@ module _ (c : Site) (lets : LetIn c) where
         (ap (λ (y : List ℕ). y ++ c .world .left) (sym (m .same))) tt (heeds xs i bs is d p)
         (kept-eq φ lost G (at t (Header x)) o
         (λ y. ap (λ (k : Prog). plain (c .state .ses .capacity) k (held t ++ y)) (program-is c lets (outcomeOf bs)) ∙ e (t .msg) (held t ++ y)
-        ∙ ap (λ (ψ : Frame). plain (ψ .capacity) (restOf (ψ .capacity) (t .msg) (Header x)) (held t ++ y)) (sym (m .frame)))
+        ∙ ap (λ (ψ : Frame). plain (ψ .capacity) (restOf (dialectOf (ψ .ids)) (ψ .capacity) (t .msg) (Header x)) (held t ++ y)) (sym (m .frame)))
         (subst (λ (ψ : Frame). Kept ψ lost (at t (Header x)) o) (m .frame) (pumped-ok t (Header x) lost (m .good) tt)))
         (rw (sym (m .place), ap (λ (ψ : Frame). ψ .capacity) (sym (m .frame))) (pump-tail 4 t (Header x) lost (m .good) tt))
         (λ y.
-        rw (program-is c lets (outcomeOf bs), meets, sym (m .msg), ap (λ (ψ : Frame). ψ .capacity) (sym (m .frame)))
+        rw (program-is c lets (outcomeOf bs), meets, sym (m .msg), ap (λ (ψ : Frame). ψ .capacity) (sym (m .frame)), ap (λ (ψ : Frame). ψ .ids) (sym (m .frame)))
         (pump-text 4 t (Header x) lost (m .good) tt y))
 
     -- what a fault of a write comes to: an answer, or for a push the next header

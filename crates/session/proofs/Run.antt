@@ -14,7 +14,7 @@ use Rattle.protocol.specs.Answers as P
 use Rattle.protocol.specs.Answers.{End, closed, error}
 use Rattle.protocol.specs.Bytes.{pick}
 use Rattle.protocol.specs.Calls.{Call}
-use Rattle.protocol.specs.Ids.{published}
+use Rattle.ids.specs.Ids.{dialectOf}
 use Rattle.protocol.specs.Reader.{Result, short, plain, Config, Report, program, endOf, Reply, reply, plainCall, isQuit, configAfter}
 use Rattle.protocol.proofs.Bytes.{over-length}
 use Rattle.protocol_readers.proofs.Needs.{plain-short}
@@ -37,7 +37,7 @@ use Rattle.session.specs.Phases.{wants}
 use Rattle.session.specs.Reports.{reportRefusal, refusalAt, readIn, readAt, reportRead, wroteAt, reportWrote, faultAnswer, faultAt, reportFault}
 use Rattle.session.specs.Shown.{paper}
 use Rattle.session.specs.State as S
-use Rattle.session.specs.State.{St, st, Out, Good}
+use Rattle.session.specs.State.{dialectIn, St, st, Out, Good}
 use Rattle.session.proofs.Buf.{sound-of, good-at, good-pending}
 use Rattle.session.proofs.Misfit.{fits-misfit}
 use Rattle.session.proofs.Tail.{tailIn, Tails, stay-tail}
@@ -49,7 +49,7 @@ use Rattle.session.proofs.Turns.{held, cont, Frame, frameOf, Waits, Kep
 -- a session, as the plain reader is set up; z is reported of the close
 abbrev pub configIn : Frame → Report → Config
 configIn φ z =
-    record { setting = record { dialect = published; features = listed (φ .features); ended = φ .ended }; capacity = φ .capacity; close = z }
+    record { setting = record { dialect = dialectOf (φ .ids); features = listed (φ .features); ended = φ .ended }; capacity = φ .capacity; close = z }
 
 abbrev pub configOf : Session → Report → Config
 configOf s z = configIn (frameOf s) z
@@ -142,19 +142,19 @@ module _ (h : Host) (g : Config) (q : Call) (v : List ℕ) (n z : ℕ) (m : List
   -- one step of the run, in the world w where the bytes u of v have come
   module _ (w : World) (u : List ℕ) (t : St) (is : outcomeOf (w .broken) ≡ r) (on-time : w .stopped ≡ none) (come : v ≡ u ++ w .left) (brought : Brought (w .asks)) (heeds : Heeds g q v n z w)
       (place : t .ses .buf .tail ≡ tailIn (g .capacity) (t .ses .pending) (length (held t)) (tail w))
-      (texts : (x : List ℕ) → M (u ++ x) ≡ textIn (g .capacity) (t .ses .pending) (t .msg) (held t ++ x))
+      (texts : (x : List ℕ) → M (u ++ x) ≡ textIn (g .setting .dialect) (g .capacity) (t .ses .pending) (t .msg) (held t ++ x))
       (k : World → Step Session → Run Session)
       (ends : (w′ : World) (t′ : St) (a : Answer) → k w′ (stepOf (telling t′ a)) ≡ over-with (t′ .ses) (t′ .rx) (t′ .msg)
       (paper (t′ .rx) (t′ .msg) a) w′)
       (on : (w′ : World) (u′ : List ℕ) (o : Out) → length (w′ .left) < length (w .left) → outcomeOf (w′ .broken) ≡ r → w′ .stopped ≡ none → v ≡ u′ ++ w′ .left → Brought (w′ .asks) → Heeds g q v n z w′
-      → Kept φ lost (λ x. G (u′ ++ x)) o → Tails (g .capacity) (tail w′) o → Texts (g .capacity) (λ x. M (u′ ++ x)) o → Ok (k w′ (stepOf o))) where
+      → Kept φ lost (λ x. G (u′ ++ x)) o → Tails (g .capacity) (tail w′) o → Texts (g .setting .dialect) (g .capacity) (λ x. M (u′ ++ x)) o → Ok (k w′ (stepOf o))) where
     -- the plain reader is given all of v
     given-all : replyOf (w .stopped) g (h .end) (outcomeOf (w .broken)) q v ≡ reply (endOf (h .end) r q) (G (u ++ w .left))
     given-all =
         ap (λ (s : Option Stop). replyOf s g (h .end) (outcomeOf (w .broken)) q v) on-time ∙ ap (λ (r′ : Report). plainCall g (h .end) r′ q v) is
         ∙ ap (λ (y : List ℕ). reply (endOf (h .end) r q) (G y)) come
 
-    in-the-end : keeping (textOf g (outcomeOf (w .broken)) q (cameOf (w .stopped) v)) m ≡ textIn (g .capacity) (t .ses .pending) (t .msg) (held t ++ w .left)
+    in-the-end : keeping (textOf g (outcomeOf (w .broken)) q (cameOf (w .stopped) v)) m ≡ textIn (g .setting .dialect) (g .capacity) (t .ses .pending) (t .msg) (held t ++ w .left)
     in-the-end =
         ap (λ (s : Option Stop). keeping (textOf g (outcomeOf (w .broken)) q (cameOf s v)) m) on-time ∙ ap (λ (r′ : Report). keeping (textOf g r′ q v) m) is
         ∙ ap M come ∙ texts (w .left)
@@ -166,13 +166,16 @@ module _ (h : Host) (g : Config) (q : Call) (v : List ℕ) (n z : ℕ) (m : List
       abbrev step : Step Session
       step = stepOf (record { st = t; reply = R.Read i len })
 
+      settled : configOf (t .ses) (g .close) ≡ configAfter g q
+      settled = ap (λ (ψ : Frame). configIn ψ (g .close)) (x .frame) ∙ config
+
       capacity : t .ses .capacity ≡ g .capacity
-      capacity = ap (λ (ψ : Frame). ψ .capacity) (x .frame) ∙ ap (λ (c : Config). c .capacity) config
+      capacity = ap (λ (c : Config). c .capacity) settled
 
       falls : (y : List ℕ) → length y ≡ 0 → G (u ++ y) ≡ short (wants (t .ses .capacity) p) (held t ++ y)
       falls y e =
           let l = held-length (t .rx) (t .ses .buf) (sound-of t (x .good)) in
-          x .same y ∙ plain-short (t .ses .capacity) (wants (t .ses .capacity) p) (cont (t .ses .capacity) (t .msg) p) (held t ++ y) (x .fits)
+          x .same y ∙ plain-short (t .ses .capacity) (wants (t .ses .capacity) p) (cont (dialectIn (t .ses)) (t .ses .capacity) (t .msg) p) (held t ++ y) (x .fits)
           (omega (arith, x, length-append (held t) y))
 
       at-need : (j : ℕ) → AtNeed g (outcomeOf (w .broken)) q v (w .pieces) (ask j)
@@ -219,11 +222,11 @@ module _ (h : Host) (g : Config) (q : Call) (v : List ℕ) (n z : ℕ) (m : List
       lends = ap (λ (ψ : Frame). ψ .lent) (x .frame) ∙ size
 
       -- fewer than are wanted, and nothing of the text is kept
-      text-stays : (y : List ℕ) → length y ≡ 0 → textIn (g .capacity) (t .ses .pending) (t .msg) (held t ++ y) ≡ t .msg
+      text-stays : (y : List ℕ) → length y ≡ 0 → textIn (g .setting .dialect) (g .capacity) (t .ses .pending) (t .msg) (held t ++ y) ≡ t .msg
       text-stays y empty =
           let few : length (held t ++ y) < wants (g .capacity) p =
           rw (sym capacity) (omega (arith, x, length-append (held t) y, held-length (t .rx) (t .ses .buf) (sound-of t (x .good)))) in
-          ap (λ (z : Pending). textIn (g .capacity) z (t .msg) (held t ++ y)) (x .pend) ∙ text-short (g .capacity) p (t .msg) (held t ++ y) few
+          ap (λ (z : Pending). textIn (g .setting .dialect) (g .capacity) z (t .msg) (held t ++ y)) (x .pend) ∙ text-short (g .setting .dialect) (g .capacity) p (t .msg) (held t ++ y) few
 
       -- the read comes to the fault e, in the world w′
       module _ (e : End) (w′ : World) (f : ℕ → ℕ) where
@@ -294,12 +297,12 @@ module _ (h : Host) (g : Config) (q : Call) (v : List ℕ) (n z : ℕ) (m : List
           (subst (λ (n′ : ℕ). Tails n′ (i + j) (until j)) capacity
           (subst (λ (j′ : ℕ). Tails (t .ses .capacity) (i + j′) (until j′)) e
           (stay-tail x y (filling f (len - length y)) (omega arith) (omega (arith, x, length-filling f (len - length y)))))))
-          (subst (Texts (g .capacity) (λ z. M (u ++ y ++ z)))
+          (subst (Texts (g .setting .dialect) (g .capacity) (λ z. M (u ++ y ++ z)))
           (sym (read-step t₁ (length lent) (window-good f y (omega arith)) ended lends _ (x .pend) refl j))
           (λ z.
-          ap M (append-assoc u y z) ∙ texts (y ++ z) ∙ ap (λ (s : Pending). textIn (g .capacity) s (t .msg) (held t ++ (y ++ z))) (x .pend)
-          ∙ subst (λ (n′ : ℕ). Texts n′ (λ a′. textAt n′ p (t .msg) (held t ++ (y ++ a′))) (until j)) capacity
-          (subst (λ (i′ : ℕ). Texts (t .ses .capacity) (λ a′. textAt (t .ses .capacity) p (t .msg) (held t ++ (y ++ a′))) (until i′)) e
+          ap M (append-assoc u y z) ∙ texts (y ++ z) ∙ ap (λ (s : Pending). textIn (g .setting .dialect) (g .capacity) s (t .msg) (held t ++ (y ++ z))) (x .pend)
+          ∙ subst (λ (k′ : Config). Texts (k′ .setting .dialect) (k′ .capacity) (λ a′. textAt (k′ .setting .dialect) (k′ .capacity) p (t .msg) (held t ++ (y ++ a′))) (until j)) settled
+          (subst (λ (i′ : ℕ). Texts (dialectIn (t .ses)) (t .ses .capacity) (λ a′. textAt (dialectIn (t .ses)) (t .ses .capacity) p (t .msg) (held t ++ (y ++ a′))) (until i′)) e
           (stay-text x y (filling f (len - length y)) (omega arith) (omega (arith, x, length-filling f (len - length y))))) z))
 
       read-ok : (ls : List ℕ) (fails : Option End) → w .left ≡ ls → Ok (grantRead core h lent k w step i len ls fails)
@@ -319,7 +322,7 @@ module _ (h : Host) (g : Config) (q : Call) (v : List ℕ) (n z : ℕ) (m : List
           same = given-all ∙ ap (reply (endOf (h .end) r q)) (x .same (w .left));
           heeds = heeds;
           ends = place ∙ ap (λ (y : Pending). tailIn (g .capacity) y (length (held t)) (tail w)) (x .still);
-          kept = sym (in-the-end ∙ ap (λ (z : Pending). textIn (g .capacity) z (t .msg) (held t ++ w .left)) (x .still));
+          kept = sym (in-the-end ∙ ap (λ (z : Pending). textIn (g .setting .dialect) (g .capacity) z (t .msg) (held t ++ w .left)) (x .still));
         }
     reply-ok (R.Read i len) x =
         let wide : 0 < len = omega (arith, x .1) in
@@ -331,7 +334,7 @@ module _ (h : Host) (g : Config) (q : Call) (v : List ℕ) (n z : ℕ) (m : List
     reply-ok R.Close x = absurd x
 
   pub reading-ok : (f : ℕ) (w : World) (u : List ℕ) (o : Out) → length (w .left) + 1 < f → outcomeOf (w .broken) ≡ r → w .stopped ≡ none → v ≡ u ++ w .left → Brought (w .asks) → Heeds g q v n z w
-      → Kept φ lost (λ x. G (u ++ x)) o → Tails (g .capacity) (tail w) o → Texts (g .capacity) (λ x. M (u ++ x)) o → Ok (run core h lent f w (stepOf o))
+      → Kept φ lost (λ x. G (u ++ x)) o → Tails (g .capacity) (tail w) o → Texts (g .setting .dialect) (g .capacity) (λ x. M (u ++ x)) o → Ok (run core h lent f w (stepOf o))
   unfolding run
   reading-ok zero w u o l is on-time come brought heeds x place texts = absurd (omega arith)
   reading-ok (suc f) w u o l is on-time come brought heeds x place texts =

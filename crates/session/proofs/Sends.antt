@@ -12,10 +12,12 @@ use lib.ListN.{length, take, drop}
 use lib.Seq.{append-snoc, take-length}
 use Rattle.protocol.specs.Bytes.{over}
 use Rattle.protocol.specs.Calls.{messages}
-use Rattle.protocol.specs.Ids.{published}
+use Rattle.ids.specs.Ids.{numberOf, dialectOf}
+use Rattle.protocol.specs.Ids.{Dialect}
+use Rattle.request_message.specs.Composed.{asked}
 use Rattle.protocol.specs.Messages.{messageOf, bytesOfRequest, apart, pieces}
 use Rattle.protocol.specs.Reader.{Report, accepted, broke}
-use Rattle.request_piece.specs.Pieces.{headerOf, partsOf, pieceList}
+use Rattle.request_piece.specs.Pieces.{headerOf, partsOf, pieceList, pieceOf}
 use Rattle.request_piece.specs.declared.Piece.{Piece}
 use Rattle.request_piece.specs.declared.Piece.the-variants as P
 use Rattle.recv_buf.proofs.Laws.{held-length}
@@ -29,8 +31,8 @@ use Rattle.session.specs.Core.{faultOf, showOf, stepOf, core}
 use Rattle.session.specs.Faithful.{piecesOf, Composed}
 use Rattle.session.specs.Host.{Step, World, Run, grantWrite, granted, run}
 use Rattle.session.specs.Reports.{wroteAt, faultAt}
-use Rattle.session.specs.State.{St, st, Out, out, beside, at, Good}
-use Rattle.session.specs.Sends.{tidied, carried, pieceReply, sendPiece, messageOut, resumed, wroteOn}
+use Rattle.session.specs.State.{dialectIn, St, st, Out, out, beside, at, Good}
+use Rattle.session.specs.Sends.{idFor, tidied, carried, pieceReply, sendPiece, messageOut, resumed, wroteOn}
 use Rattle.session.proofs.Buf.{sound-of}
 use Rattle.session.proofs.Follows.{Breaks, Follows}
 use Rattle.session.proofs.Run.{fault-step, wrote-step}
@@ -43,6 +45,16 @@ module _ (c : Site) where
   -- a piece behind the held bytes may be added
   abbrev pub Behind : Type 0
   Behind = (i : ℕ) (is : List ℕ) → i ≡ length (held (c .state)) → Composed (c .call) (length (held (c .state))) is → Composed (c .call) (length (held (c .state))) (i ∷ is)
+
+  -- the call's session keeps its ids
+  abbrev own : Request → ℕ
+  own rq = idFor (c .state .ses) rq
+
+  same-id : {z : ℕ} (rq : Request) (t : St) → Mid c z t → idFor (t .ses) rq ≡ own rq
+  same-id rq t x = ap (λ (ψ : Frame). numberOf (ψ .ids) (asked rq)) (x .frame)
+
+  same-dialect : {z : ℕ} (t : St) → Mid c z t → dialectIn (t .ses) ≡ dialectIn (c .state .ses)
+  same-dialect t x = ap (λ (ψ : Frame). dialectOf (ψ .ids)) (x .frame)
 
   module _ (live : c .state .ses .ended ≡ false) (rq : Request) (z n : ℕ) (breaks : Breaks c z n rq) where
     -- the host is handed a piece b
@@ -78,7 +90,7 @@ module _ (c : Site) where
 
       -- the k-th piece p goes out, and ps are behind it
       piece-ok : (f i k : ℕ) (xs : List (List ℕ)) (t : St) (p : Piece) (ps : List Piece) → n ≤ f → Mid c z t
-          → drop k (pieceList rq (length part)) ≡ p ∷ ps
+          → drop k (pieceList (own rq) rq (length part)) ≡ p ∷ ps
           → ys ≡ xs ++ bytesIn part p ∷ map (bytesIn part) ps
           → ((t′ : St) → Mid c z t′ → Goes c f (i + 1) (xs ++ bytesIn part p ∷ []) [] (wroteOn t′ rq from (k + 1) (lent c)))
           → Goes c (suc f) i xs [] (out (sendPiece (t .ses) rq from (length part) k) (t .rx) (t .msg))
@@ -87,7 +99,7 @@ module _ (c : Site) where
           let t₁ : St = st (at (t .ses) (t .ses .buf) (Writing rq from (k + 1))) (t .rx) (t .msg) in
           let x₁ : Mid c z t₁ = mid-pending c t (Writing rq from (k + 1)) x in
           let o : Reply = pieceReply from (length part) p in
-          rw (piece-at rq (length part) k (p ∷ ps) at-k)
+          rw (ap (λ (j : ℕ). pieceOf j rq (length part) k) (same-id rq t x) ∙ piece-at (own rq) rq (length part) k (p ∷ ps) at-k)
           (subst (Ok c)
           (sym (granted-piece (λ w′ s′. run core (c .host) (lent c) f w′ s′) (wrote c i xs [] is) (stepOf (record { st = t₁; reply = o })) p))
           (write-ok f i xs (map (bytesIn part) ps ++ todo) (bytesIn part p) t₁ o from (k + 1) l x₁ refl
@@ -119,41 +131,50 @@ module _ (c : Site) where
           (behind ((tidied t) .ses .buf .tail) is (tidied-tail t (x .good) ∙ ap length (x .same)) d))
 
       module _ (carries : carried rq from (lent c) ≡ part) where
+        -- the pieces of a state's session, and of the call's
+        listed : (k : ℕ) (t : St) → Mid c z t → drop k (pieceList (idFor (t .ses) rq) rq (length (carried rq from (lent c)))) ≡ drop k (pieceList (own rq) rq (length part))
+        listed k t x =
+            ap (λ (j : ℕ). drop k (pieceList j rq (length (carried rq from (lent c))))) (same-id rq t x)
+            ∙ ap (λ (l : List ℕ). drop k (pieceList (own rq) rq (length l))) carries
+
         -- a piece was accepted, and ps are still to go
         pieces-ok : (ps : List Piece) (m f i k : ℕ) (xs : List (List ℕ)) (t : St) → Sent m ps → n + m ≤ f → 0 < k → Mid c z t
-            → drop k (pieceList rq (length part)) ≡ ps
+            → drop k (pieceList (own rq) rq (length part)) ≡ ps
             → ys ≡ xs ++ map (bytesIn part) ps → Goes c f i xs [] (wroteOn t rq from k (lent c))
         pieces-ok [] m f i k xs t z l p x at-k e =
-            rw (wrote-last t rq from k (lent c) p (rw carries at-k), sym (append-nil xs) ∙ sym e) (on f i t (omega arith) x)
+            rw (wrote-last t rq from k (lent c) p (listed k t x ∙ at-k), sym (append-nil xs) ∙ sym e) (on f i t (omega arith) x)
         pieces-ok (b ∷ ps) zero f i k xs t z l p x at-k e = absurd z
         pieces-ok (b ∷ ps) (suc m) zero i k xs t z l p x at-k e = absurd (omega arith)
         pieces-ok (b ∷ ps) (suc m) (suc f) i k xs t z l p x at-k e =
-            rw (wrote-more t rq from k (lent c) p b ps (rw carries at-k) (z .0), carries)
+            rw (wrote-more t rq from k (lent c) p b ps (listed k t x ∙ at-k) (z .0), carries)
             (piece-ok f i k xs t b ps (omega arith) x at-k e
             (λ t′ x′. pieces-ok ps m f (i + 1) (k + 1) (xs ++ bytesIn part b ∷ []) t′ (z .1) (omega arith) (omega arith) x′
-            (drop-rest (pieceList rq (length part)) (b ∷ ps) k at-k)
+            (drop-rest (pieceList (own rq) rq (length part)) (b ∷ ps) k at-k)
             (e ∙ sym (append-snoc xs (bytesIn part b) (map (bytesIn part) ps)))))
 
         -- .. or in pieces, from the first
-        pub apart-ok : (f i : ℕ) (xs : List (List ℕ)) (t : St) → n + 5 ≤ f → Mid c z t → ys ≡ xs ++ apart published (meant rq part)
+        pub apart-ok : (f i : ℕ) (xs : List (List ℕ)) (t : St) → n + 5 ≤ f → Mid c z t → ys ≡ xs ++ apart (dialectIn (c .state .ses)) (meant rq part)
             → Goes c f i xs [] (out (sendPiece (t .ses) rq from (length part) 0) (t .rx) (t .msg))
         unfolding pieceList
         apart-ok zero i xs t l x e = absurd (omega arith)
         apart-ok (suc f) i xs t l x e =
-            let p : Piece = headerOf rq (length part) in
-            let ps : List Piece = drop 1 (pieceList rq (length part)) in
-            let e₁ : ys ≡ xs ++ bytesIn part p ∷ map (bytesIn part) ps = e ∙ ap (λ (y : List (List ℕ)). xs ++ y) (apart-pieces rq part) in
+            let p : Piece = headerOf (own rq) rq (length part) in
+            let ps : List Piece = drop 1 (pieceList (own rq) rq (length part)) in
+            let e₁ : ys ≡ xs ++ bytesIn part p ∷ map (bytesIn part) ps = e ∙ ap (λ (y : List (List ℕ)). xs ++ y) (apart-pieces (c .state .ses .ids) rq part) in
             piece-ok f i 0 xs t p ps (omega arith) x refl e₁
-            (λ t′ x′. pieces-ok ps 4 f (i + 1) 1 (xs ++ bytesIn part p ∷ []) t′ (pieces-sent rq (length part) .1) (omega arith) (omega arith) x′ refl
+            (λ t′ x′. pieces-ok ps 4 f (i + 1) 1 (xs ++ bytesIn part p ∷ []) t′ (pieces-sent (own rq) rq (length part) .1) (omega arith) (omega arith) x′ refl
             (e₁ ∙ sym (append-snoc xs (bytesIn part p) (map (bytesIn part) ps))))
 
         pub message-ok : {y : ℕ} (f i : ℕ) (xs : List (List ℕ)) (t : St) → length (held (c .state)) ≡ z → Behind → n + 5 ≤ f → Mid c y t
-            → ys ≡ xs ++ pieces published (free c) (meant rq part)
+            → ys ≡ xs ++ pieces (dialectIn (c .state .ses)) (free c) (meant rq part)
             → Goes c f i xs [] (beside (messageOut (t .ses) (t .rx) rq from part) (t .msg))
         message-ok f i xs t front behind l x e = go (decLe (length m) (free c))
           where
             m : List ℕ
-            m = bytesOfRequest published (meant rq part)
+            m = bytesOfRequest (dialectIn (t .ses)) (meant rq part)
+
+            e₁ : ys ≡ xs ++ pieces (dialectIn (t .ses)) (free c) (meant rq part)
+            e₁ = e ∙ ap (λ (δ : Dialect). xs ++ pieces δ (free c) (meant rq part)) (sym (same-dialect t x))
 
             size : t .ses .capacity ≡ c .state .ses .capacity
             size = ap (λ (ψ : Frame). ψ .capacity) (x .frame)
@@ -166,12 +187,13 @@ module _ (c : Site) where
                 let within = held-length (t .rx) (t .ses .buf) (sound-of t (x .good)) in
                 let room : length (held t) + length m ≤ t .ses .capacity = omega (arith, x .good, size, count) in
                 rw (message-whole t (x .good) rq from part room)
-                (whole-ok f i xs t m front behind (omega arith) x room (e ∙ ap (λ (y : List (List ℕ)). xs ++ y) (pieces-whole (free c) (meant rq part) fit)))
+                (whole-ok f i xs t m front behind (omega arith) x room (e₁ ∙ ap (λ (y : List (List ℕ)). xs ++ y) (pieces-whole (dialectIn (t .ses)) (free c) (meant rq part) fit)))
             go (no wide) =
                 let full : t .ses .capacity < length (held t) + length m = omega (arith, size, count) in
                 rw (message-apart t (x .good) rq from part full)
                 (apart-ok _ i xs (tidied t) l (mid-at c (tidied t) (mid-tidied c t x) (sym front))
-                (e ∙ ap (λ (y : List (List ℕ)). xs ++ y) (pieces-apart (free c) (meant rq part) (omega arith))))
+                (e₁ ∙ ap (λ (y : List (List ℕ)). xs ++ y) (pieces-apart (dialectIn (t .ses)) (free c) (meant rq part) (omega arith))
+                ∙ ap (λ (δ : Dialect). xs ++ apart δ (meant rq part)) (same-dialect t x)))
 
   -- a call of one message: with a path, or a header only
   module _ (lets : LetIn c) (good : Good (c .state)) (live : c .state .ses .ended ≡ false) (rq : Request) (z : ℕ) (breaks : Breaks c z (later c) rq)
@@ -181,20 +203,20 @@ module _ (c : Site) where
     path-ok f front behind one carries l =
         message-ok live rq z (later c) breaks 0 (lent c) (omega arith) (take-length (lent c)) (all c) [] (sym (append-nil (all c))) on carries f
         (c .world .writes) [] (started c) front behind l (mid-started c good)
-        (all-is c lets ∙ ap (piecesOf published (free c)) one ∙ append-nil (pieces published (free c) (meant rq (lent c))))
+        (all-is c lets ∙ ap (piecesOf (dialectIn (c .state .ses)) (free c)) one ∙ append-nil (pieces (dialectIn (c .state .ses)) (free c) (meant rq (lent c))))
 
     -- one piece, whatever is lent
-    pub bare-ok : (f : ℕ) → c .state .ses .buf .tail ≡ z → messages (c .call) ≡ meant rq [] ∷ [] → messageOf published (meant rq []) .parts ≡ []
-        → partsOf rq ≡ [] → later c + 5 ≤ f
+    pub bare-ok : (f : ℕ) → c .state .ses .buf .tail ≡ z → messages (c .call) ≡ meant rq [] ∷ [] → messageOf (dialectIn (c .state .ses)) (meant rq []) .parts ≡ []
+        → ((j : ℕ) → partsOf j rq ≡ []) → later c + 5 ≤ f
         → Goes c f (c .world .writes) [] [] (out (sendPiece (started c .ses) rq 0 0 0) (c .state .rx) (c .state .msg))
     unfolding pieceList
     bare-ok zero still one bare none l = absurd (omega arith)
     bare-ok (suc f) still one bare none l =
         piece-ok live rq z (later c) breaks 0 [] (omega arith) refl (all c) [] (sym (append-nil (all c))) on f (c .world .writes) 0 [] (started c)
-        (headerOf rq 0) [] (omega arith) (mid-at c (started c) (mid-started c good) (sym still)) (rw none)
-        (all-is c lets ∙ ap (piecesOf published (free c)) one ∙ append-nil (pieces published (free c) (meant rq []))
-        ∙ pieces-bare (free c) (meant rq []) bare ∙ apart-pieces rq [] ∙ rw none)
-        (λ t′ x′. rw (wrote-last t′ rq 0 1 (lent c) (omega arith) (rest-none rq (length (carried rq 0 (lent c))) none))
+        (headerOf (own rq) rq 0) [] (omega arith) (mid-at c (started c) (mid-started c good) (sym still)) (rw (none (own rq)))
+        (all-is c lets ∙ ap (piecesOf (dialectIn (c .state .ses)) (free c)) one ∙ append-nil (pieces (dialectIn (c .state .ses)) (free c) (meant rq []))
+        ∙ pieces-bare (dialectIn (c .state .ses)) (free c) (meant rq []) bare ∙ apart-pieces (c .state .ses .ids) rq [] ∙ rw (none (own rq)))
+        (λ t′ x′. rw (wrote-last t′ rq 0 1 (lent c) (omega arith) (rest-none (idFor (t′ .ses) rq) rq (length (carried rq 0 (lent c))) (none (idFor (t′ .ses) rq))))
         (subst (λ (ys : List (List ℕ)). Goes c f (c .world .writes + 1) ys [] (resumed t′ rq 0 (lent c)))
-        (all-is c lets ∙ ap (piecesOf published (free c)) one ∙ append-nil (pieces published (free c) (meant rq []))
-        ∙ pieces-bare (free c) (meant rq []) bare ∙ apart-pieces rq [] ∙ rw none) (on f (c .world .writes + 1) t′ (omega arith) x′)))
+        (all-is c lets ∙ ap (piecesOf (dialectIn (c .state .ses)) (free c)) one ∙ append-nil (pieces (dialectIn (c .state .ses)) (free c) (meant rq []))
+        ∙ pieces-bare (dialectIn (c .state .ses)) (free c) (meant rq []) bare ∙ apart-pieces (c .state .ses .ids) rq [] ∙ rw (none (own rq))) (on f (c .world .writes + 1) t′ (omega arith) x′)))

@@ -10,7 +10,6 @@ use Rattle.protocol.specs.Answers.{Answer, End}
 use Rattle.protocol.specs.Bytes.{pick}
 use Rattle.protocol.specs.Calls.{Call, messages}
 use Rattle.protocol.specs.Refusal.{refusal}
-use Rattle.protocol.specs.Ids.{published}
 use Rattle.protocol.specs.Reader.{Config, Report, unlessRefused, onReport, program}
 use Rattle.session.specs.declared.Pending.{Pending}
 use Rattle.session.specs.declared.Session.{Session}
@@ -18,7 +17,7 @@ use Rattle.session.specs.Calls.{settingOf}
 use Rattle.session.specs.Core.{stepOf, core}
 use Rattle.session.specs.Faithful.{piecesOf, unlessPieces, callPieces, Composed, compacts, unlessMoved, restsAt}
 use Rattle.session.specs.Host.{Host, Broken, World, lentOf, Run, run}
-use Rattle.session.specs.State.{St, st, Out, at, begun, Good}
+use Rattle.session.specs.State.{dialectIn, St, st, Out, at, begun, Good}
 use Rattle.session.specs.Sends.{tidied}
 use Rattle.session.proofs.Buf.{good-pending, good-tidied, held-tidied}
 use Rattle.session.proofs.Run.{configOf, Comes}
@@ -130,5 +129,5 @@ module _ (c : Site) where
   rests-is lets r =
       ap (λ (o : Option Answer). unlessMoved o (compacts r (c .call)) (length (held (c .state))) (c .state .ses .buf .tail)) lets
 
-  pub all-is : LetIn → all ≡ piecesOf published free (messages (c .call))
-  all-is lets = ap (λ (o : Option Answer). unlessPieces o (piecesOf published free (messages (c .call)))) lets
+  pub all-is : LetIn → all ≡ piecesOf (dialectIn (c .state .ses)) free (messages (c .call))
+  all-is lets = ap (λ (o : Option Answer). unlessPieces o (piecesOf (dialectIn (c .state .ses)) free (messages (c .call)))) lets

@@ -13,12 +13,13 @@ use lib.Seq.{drop-append-le, length-take-le, drop-drop}
 use Rattle.protocol.specs.Answers as P
 use Rattle.protocol.specs.Bytes.{pick, same, over as laid}
 use Rattle.protocol.specs.Calls as C
-use Rattle.protocol.specs.Ids.{Id, published, letters, STAT, STA2, DATA, DONE, OKAY, FAIL, DENT, DNT2}
+use Rattle.protocol.specs.Ids.{Id, Dialect, STAT, STA2, DATA, DONE, OKAY, FAIL, DENT, DNT2}
 use Rattle.protocol.specs.Reader.{Prog, answer, need, skip, Result, ended, short, plain, drain, Way, amongWays, nextOn, taking, statLength, stat2Answer, statAnswer, statWays, entryLength, nameLength, entryAnswer, entryWays, chunkWays, okayWays}
 use Rattle.protocol.specs.Records.{idAt, argAt, headerSize, Dent, Stat2, Dent2}
 use Rattle.protocol_readers.proofs.Needs.{plain-full, plain-short, plain-go-held, need-cong, drain-none, drain-some, drain-fuel}
 use Rattle.features.specs.declared.Features.{Features}
 use Rattle.format_record.specs.Told.{dentOf, stat2Of, dent2Of, toldStat, toldStat2}
+use Rattle.ids.specs.declared.Ids.{Ids}
 use Rattle.recv_buf.specs.RecvBuf.{cursor, heldCount, heldBytes}
 use Rattle.recv_buf.proofs.Laws.{held-length, compacted-head}
 use Rattle.session.specs.declared.Answer.{Answer}
@@ -41,7 +42,7 @@ use Rattle.session.specs.Phases.{wants, stopping, going, strange, procee
 use Rattle.session.specs.Reports.{readIn, readAt}
 use Rattle.session.specs.Shown.{partOf, paper}
 use Rattle.session.specs.State as S
-use Rattle.session.specs.State.{St, st, Out, out, half, beside, answering, Good}
+use Rattle.session.specs.State.{dialectIn, St, st, Out, out, half, beside, answering, Good}
 use Rattle.session.specs.Steps.{reading, asked, kept, over, onHop, turned, followed, turnOf, hopped, pumped, readOn}
 use Rattle.session.specs.Sends.{tidied}
 use Rattle.session.proofs.Buf.{id-in, arg-in, stat-in, dent-in, stat2-in, dent2-in, four-bytes, drop-take, kept-first, kept-length, good-at, good-pending, good-tidied, held-tidied, sound-of, view, held-dropped, came-length, held-came}
@@ -69,30 +70,30 @@ otherOf W.Chunk id = P.unexpected id
 otherOf W.Okay id = P.unexpected id
 otherOf W.Nothing id = P.broken P.closed
 
-unfoldable pub cont : ℕ → List ℕ → Phase → List ℕ → Prog
-cont c msg (Header w) x = nextOn published c (waysOf w) (otherOf w) x
-cont c msg (Stat v) x = skip (statLength (versionOf v)) (answer (statAnswer (versionOf v) x))
-cont c msg (Entry v) x =
+unfoldable pub cont : Dialect → ℕ → List ℕ → Phase → List ℕ → Prog
+cont δ c msg (Header w) x = nextOn δ c (waysOf w) (otherOf w) x
+cont δ c msg (Stat v) x = skip (statLength (versionOf v)) (answer (statAnswer (versionOf v) x))
+cont δ c msg (Entry v) x =
     skip (entryLength (versionOf v)) (taking (nameLength (versionOf v) x) (λ name. answer (entryAnswer (versionOf v) x name)))
-cont c msg (Last v) x = skip (entryLength (versionOf v)) (answer P.end)
-cont c msg (NameV1 d) x = skip (d .namelen) (answer (P.entry (toldStat (d .stat)) x))
-cont c msg (NameV2 d) x = skip (d .namelen) (answer (P.entry2 (toldStat2 (d .stat)) x))
-cont c msg (Body n) x = skip (headerSize + n) (answer (P.chunk (drop headerSize x)))
-cont c msg (Text n) x = skip (min n c) (drain c n (n - min n c) x)
-cont c msg (Rest left text) x = skip (min left c) (drain c left (left - min left c) (take text msg))
+cont δ c msg (Last v) x = skip (entryLength (versionOf v)) (answer P.end)
+cont δ c msg (NameV1 d) x = skip (d .namelen) (answer (P.entry (toldStat (d .stat)) x))
+cont δ c msg (NameV2 d) x = skip (d .namelen) (answer (P.entry2 (toldStat2 (d .stat)) x))
+cont δ c msg (Body n) x = skip (headerSize + n) (answer (P.chunk (drop headerSize x)))
+cont δ c msg (Text n) x = skip (min n c) (drain c n (n - min n c) x)
+cont δ c msg (Rest left text) x = skip (min left c) (drain c left (left - min left c) (take text msg))
 
-abbrev pub restOf : ℕ → List ℕ → Phase → Prog
-restOf c msg p = need (wants c p) (cont c msg p)
+abbrev pub restOf : Dialect → ℕ → List ℕ → Phase → Prog
+restOf δ c msg p = need (wants c p) (cont δ c msg p)
 
 -- a header is document 01's next(..)
-pub rest-header : (c : ℕ) (msg : List ℕ) (w : Want) → restOf c msg (Header w) ≡ need headerSize (nextOn published c (waysOf w) (otherOf w))
+pub rest-header : (δ : Dialect) (c : ℕ) (msg : List ℕ) (w : Want) → restOf δ c msg (Header w) ≡ need headerSize (nextOn δ c (waysOf w) (otherOf w))
 unfolding cont wants
-rest-header c msg w = refl
+rest-header δ c msg w = refl
 
 -- what it goes on with after a turn
-abbrev pub thenOf : ℕ → List ℕ → List ℕ → Then → Prog
-thenOf c rx msg (Stop a) = answer (paper rx msg a)
-thenOf c rx msg (Go p) = restOf c msg p
+abbrev pub thenOf : Dialect → ℕ → List ℕ → List ℕ → Then → Prog
+thenOf δ c rx msg (Stop a) = answer (paper rx msg a)
+thenOf δ c rx msg (Go p) = restOf δ c msg p
 
 -- A phase that a session reaches: what it keeps of a FAIL text is no longer than the capacity.
 abbrev pub Reached : ℕ → Phase → Type 0
@@ -152,10 +153,10 @@ Nearer c h b (Stop a) = Unit {0}
 Nearer c h b (Go p) = (rank p + min h 1 < b) × Reached c p
 
 -- h bytes are held from i on
-module _ (c : ℕ) (rx msg : List ℕ) (i h : ℕ) where
+module _ (δ : Dialect) (c : ℕ) (rx msg : List ℕ) (i h : ℕ) where
   -- The turn t at the phase q does at any unread bytes what the program p does, drops and keeps no more than is wanted, and brings the end nearer.
   pub record Fine (q : Phase) (p : Prog) (t : Turn) : Type 0 where
-    pub does : (u : List ℕ) → plain c p u ≡ plain c (thenOf c rx (kept rx i (t .keeps) msg) (t .then)) (drop (t .drops) u)
+    pub does : (u : List ℕ) → plain c p u ≡ plain c (thenOf δ c rx (kept rx i (t .keeps) msg) (t .then)) (drop (t .drops) u)
     pub drops : t .drops ≤ wants c q
     pub keeps : t .keeps ≤ wants c q
     pub nearer : Nearer c (h - t .drops) (rank q + min h 1) (t .then)
@@ -165,14 +166,14 @@ module _ (c : ℕ) (rx msg : List ℕ) (i h : ℕ) where
   stops l e = record { does = e; drops = l; keeps = omega arith; nearer = tt }
 
   goes : {q r : Phase} {p : Prog} {n k : ℕ} → (n ≤ wants c q) × (k ≤ wants c q) × (rank r < rank q) × Reached c r
-      → ((u : List ℕ) → plain c p u ≡ plain c (restOf c (kept rx i k msg) r) (drop n u)) → Fine q p (record { drops = n; keeps = k; then = Go r })
+      → ((u : List ℕ) → plain c p u ≡ plain c (restOf δ c (kept rx i k msg) r) (drop n u)) → Fine q p (record { drops = n; keeps = k; then = Go r })
   goes l e = record { does = e; drops = l .0; keeps = l .1; nearer = (omega arith, l .3) }
 
   -- a header x
   module _ (x : List ℕ) (four : length (idAt x) ≡ 4) where
     fine-id : {q : Phase} (d : Id) {p₁ p₂ : Prog} {t₁ t₂ : Turn} → Fine q p₁ t₁ → Fine q p₂ t₂
-        → Fine q (pick (same (idAt x) (letters d)) p₁ p₂) (pick (same (idAt x) (letters d)) t₁ t₂)
-    fine-id {q} d {p₁} {p₂} {t₁} {t₂} y z = go (same (idAt x) (letters d))
+        → Fine q (pick (same (idAt x) (δ .bytes d)) p₁ p₂) (pick (same (idAt x) (δ .bytes d)) t₁ t₂)
+    fine-id {q} d {p₁} {p₂} {t₁} {t₂} y z = go (same (idAt x) (δ .bytes d))
       where
         go : (b : Bool) → Fine q (pick b p₁ p₂) (pick b t₁ t₂)
         go true = y
@@ -182,7 +183,7 @@ module _ (c : ℕ) (rx msg : List ℕ) (i h : ℕ) where
     unfolding plain paper wants
     strange-fine = stops (omega arith) (λ u. ap (λ (y : List ℕ). ended (P.unexpected y) u) (four-bytes (idAt x) four))
 
-    proceed-fine : (w : Want) → Fine (Header w) (amongWays published (waysOf w) x (otherOf w (idAt x))) (proceed w (idAt x) (argAt x))
+    proceed-fine : (w : Want) → Fine (Header w) (amongWays δ (waysOf w) x (otherOf w (idAt x))) (proceed δ w (idAt x) (argAt x))
     unfolding plain paper cont wants rank kept
     proceed-fine (W.Stat V1) = fine-id STAT (goes (omega arith) (λ u. refl)) strange-fine
     proceed-fine (W.Stat V2) = fine-id STA2 (goes (omega arith) (λ u. refl)) strange-fine
@@ -192,7 +193,7 @@ module _ (c : ℕ) (rx msg : List ℕ) (i h : ℕ) where
     proceed-fine W.Okay = fine-id OKAY (stops (omega arith) (λ u. refl)) strange-fine
     proceed-fine W.Nothing = stops (omega arith) (λ u. refl)
 
-    headed-fine : (w : Want) → Fine (Header w) (cont c msg (Header w) x) (headed w (idAt x) (argAt x))
+    headed-fine : (w : Want) → Fine (Header w) (cont δ c msg (Header w) x) (headed δ w (idAt x) (argAt x))
     unfolding plain cont wants rank headed kept
     headed-fine w = fine-id FAIL (goes (omega arith) (λ u. refl)) (proceed-fine w)
 
@@ -215,7 +216,7 @@ module _ (c : ℕ) (rx msg : List ℕ) (i h : ℕ) where
       rw (ne-eqb (suc n) 0 (omega arith))
       (record {
         does = λ u. rw (drain-some c f (suc n) t (omega arith), e)
-            (need-cong c g (λ y. skip g (drain c f (suc n - g) (take m x))) (cont c x (Rest (suc n) m)) (drop d u)
+            (need-cong c g (λ y. skip g (drain c f (suc n - g) (take m x))) (cont δ c x (Rest (suc n) m)) (drop d u)
             (drain-fuel c f (suc n) (suc n - g) (take m x) (drop g (drop d u)) (b .0) (omega arith) (omega arith)));
         drops = b .1;
         keeps = b .2;
@@ -224,15 +225,15 @@ module _ (c : ℕ) (rx msg : List ℕ) (i h : ℕ) where
 
   -- the turn of each phase
   module _ (least : 8 ≤ c) (aside : c ≤ length msg) (few : h ≤ c) (there : i + h ≤ length rx) where
-    turn-fine : (p : Phase) → wants c p ≤ h → Reached c p → Fine p (cont c msg p (take (wants c p) (drop i rx))) (turnAt c p rx i)
+    turn-fine : (p : Phase) → wants c p ≤ h → Reached c p → Fine p (cont δ c msg p (take (wants c p) (drop i rx))) (turnAt δ c p rx i)
     unfolding plain paper cont wants rank turnAt kept
     turn-fine (Header w) l r =
         let y : List ℕ = drop i rx in
         rw (← id-in y, ← arg-in y) (headed-fine (take 8 y) (ap length (id-in y) ∙ length-take-le 4 y (omega (arith, length-drop i rx))) w)
     turn-fine (Stat V1) l r = stops (omega arith) (λ u. rw (stat-in (drop i rx)))
     turn-fine (Stat V2) l r = stops (omega arith) (λ u. rw (stat2-in (drop i rx), stat2-told rx msg))
-    turn-fine (Entry V1) l r = goes (omega arith) (λ u. ap (λ (d : Dent). plain c (restOf c msg (NameV1 (dentOf d))) (drop 20 u)) (dent-in (drop i rx)))
-    turn-fine (Entry V2) l r = goes (omega arith) (λ u. ap (λ (d : Dent2). plain c (restOf c msg (NameV2 (dent2Of d))) (drop 76 u)) (dent2-in (drop i rx)))
+    turn-fine (Entry V1) l r = goes (omega arith) (λ u. ap (λ (d : Dent). plain c (restOf δ c msg (NameV1 (dentOf d))) (drop 20 u)) (dent-in (drop i rx)))
+    turn-fine (Entry V2) l r = goes (omega arith) (λ u. ap (λ (d : Dent2). plain c (restOf δ c msg (NameV2 (dent2Of d))) (drop 76 u)) (dent2-in (drop i rx)))
     turn-fine (Last V1) l r = stops (omega arith) (λ u. refl)
     turn-fine (Last V2) l r = stops (omega arith) (λ u. refl)
     turn-fine (NameV1 d) l r = stops (omega arith) (λ u. rw (part-in rx i (d .namelen) (P.entry (toldStat (d .stat))) (omega arith)))
@@ -252,10 +253,11 @@ pub record Frame : Type 0 where
   pub message : ℕ
   pub lent : ℕ
   pub features : Features
+  pub ids : Ids
   pub ended : Bool
 
 abbrev pub frameOf : Session → Frame
-frameOf s = record { capacity = s .capacity; message = s .message; lent = s .lent; features = s .features; ended = s .ended }
+frameOf s = record { capacity = s .capacity; message = s .message; lent = s .lent; features = s .features; ids = s .ids; ended = s .ended }
 
 -- What a step has kept of what the plain reader comes to, F, whatever bytes are still to come: the session waits at a need that is not met ..
 pub record Waits (φ : Frame) (F : List ℕ → Result) (lost : Bool) (s : St) (i n : ℕ) (p : Phase) : Type 0 where
@@ -268,7 +270,7 @@ pub record Waits (φ : Frame) (F : List ℕ → Result) (lost : Bool) (s : St) (
   pub fits : wants (s .ses .capacity) p ≤ s .ses .capacity
   pub lacks : heldCount (s .ses .buf) < wants (s .ses .capacity) p
   pub window : s .ses .buf .tail < s .ses .capacity
-  pub same : (x : List ℕ) → F x ≡ plain (s .ses .capacity) (restOf (s .ses .capacity) (s .msg) p) (held s ++ x)
+  pub same : (x : List ℕ) → F x ≡ plain (s .ses .capacity) (restOf (dialectIn (s .ses)) (s .ses .capacity) (s .msg) p) (held s ++ x)
 
 -- .. or has ended with an answer
 pub record Ends (φ : Frame) (F : List ℕ → Result) (s : St) (a : Answer) : Type 0 where
@@ -311,14 +313,14 @@ module _ (φ : Frame) (lost : Bool) (F : List ℕ → Result) where
 
 -- what the plain reader comes to at a phase, with the held bytes unread
 abbrev pub at : St → Phase → List ℕ → Result
-at s p x = plain (s .ses .capacity) (restOf (s .ses .capacity) (s .msg) p) (held s ++ x)
+at s p x = plain (s .ses .capacity) (restOf (dialectIn (s .ses)) (s .ses .capacity) (s .msg) p) (held s ++ x)
 
 -- where it waits, the plain reader falls short as long as fewer bytes than the need have come
 pub waits-short : {φ : Frame} {F : List ℕ → Result} {lost : Bool} {s : St} {i n : ℕ} {p : Phase} → Waits φ F lost s i n p
     → (x : List ℕ) → heldCount (s .ses .buf) + length x < wants (s .ses .capacity) p → F x ≡ short (wants (s .ses .capacity) p) (held s ++ x)
 waits-short {s = s} {p = p} w x l =
     w .same x
-    ∙ plain-short (s .ses .capacity) (wants (s .ses .capacity) p) (cont (s .ses .capacity) (s .msg) p) (held s ++ x) (w .fits)
+    ∙ plain-short (s .ses .capacity) (wants (s .ses .capacity) p) (cont (dialectIn (s .ses)) (s .ses .capacity) (s .msg) p) (held s ++ x) (w .fits)
     (omega (arith, length-append (held s) x, held-length (s .rx) (s .ses .buf) (sound-of s (w .good))))
 
 -- ---- the steps
@@ -336,7 +338,7 @@ turns s p = rank p + min (count s) 1
 -- a read is asked, where bytes are held from h to t
 reading-ok : {φ : Frame} {F : List ℕ → Result} (s : St) (h t : ℕ) (p : Phase) (lost : Bool) → frameOf (s .ses) ≡ φ → Good s → Reached (s .ses .capacity) p
     → h ≤ t → t < s .ses .capacity → wanted s p ≤ s .ses .capacity → t - h < wanted s p
-    → ((x : List ℕ) → F x ≡ plain (s .ses .capacity) (restOf (s .ses .capacity) (s .msg) p) (heldBytes (s .rx) (cursor h t) ++ x))
+    → ((x : List ℕ) → F x ≡ plain (s .ses .capacity) (restOf (dialectIn (s .ses)) (s .ses .capacity) (s .msg) p) (heldBytes (s .rx) (cursor h t) ++ x))
     → Kept φ lost F (beside (half (reading (s .ses) h t p lost) (s .rx)) (s .msg))
 reading-ok s h t p lost φ g r o w f l e = (
   p,
@@ -369,13 +371,13 @@ module _ (s : St) (p : Phase) (g : Good s) (r : Reached (s .ses .capacity) p) (f
       go false e =
           let z = compacted-head (s .rx) (s .ses .buf) (sound-of s g) in
           reading-ok (tidied s) _ _ p lost refl (good-tidied s g) r (rw z (omega arith)) (rw z (omega arith)) f (rw z (omega arith))
-          (λ x. ap (λ (y : List ℕ). plain (s .ses .capacity) (restOf (s .ses .capacity) (s .msg) p) (y ++ x)) (sym (held-tidied s g)))
+          (λ x. ap (λ (y : List ℕ). plain (s .ses .capacity) (restOf (dialectIn (s .ses)) (s .ses .capacity) (s .msg) p) (y ++ x)) (sym (held-tidied s g)))
 
   -- the need is met
   module _ (l : wanted s p ≤ count s) where
-    pub fine : Fine (s .ses .capacity) (s .rx) (s .msg) (s .ses .buf .head) (count s) p
-        (cont (s .ses .capacity) (s .msg) p (take (wanted s p) (drop (s .ses .buf .head) (s .rx)))) (turnOf s p)
-    fine = turn-fine (s .ses .capacity) (s .rx) (s .msg) (s .ses .buf .head) (count s) (g .least) (omega arith) (omega arith) (omega arith) p l r
+    pub fine : Fine (dialectIn (s .ses)) (s .ses .capacity) (s .rx) (s .msg) (s .ses .buf .head) (count s) p
+        (cont (dialectIn (s .ses)) (s .ses .capacity) (s .msg) p (take (wanted s p) (drop (s .ses .buf .head) (s .rx)))) (turnOf s p)
+    fine = turn-fine (dialectIn (s .ses)) (s .ses .capacity) (s .rx) (s .msg) (s .ses .buf .head) (count s) (g .least) (omega arith) (omega arith) (omega arith) p l r
 
     pub good-turned : Good (turned s (turnOf s p))
     good-turned =
@@ -385,21 +387,22 @@ module _ (s : St) (p : Phase) (g : Good s) (r : Reached (s .ses .capacity) p) (f
         (kept-length (s .rx) (s .msg) (s .ses .buf .head) ((turnOf s p) .keeps) (omega arith) (omega arith))
 
     turn-same : (x : List ℕ) → at s p x
-        ≡ plain (s .ses .capacity) (thenOf (s .ses .capacity) (s .rx) ((turned s (turnOf s p)) .msg) ((turnOf s p) .then)) (held (turned s (turnOf s p)) ++ x)
+        ≡ plain (s .ses .capacity) (thenOf (dialectIn (s .ses)) (s .ses .capacity) (s .rx) ((turned s (turnOf s p)) .msg) ((turnOf s p) .then)) (held (turned s (turnOf s p)) ++ x)
     turn-same x =
+        let δ : Dialect = dialectIn (s .ses) in
         let c : ℕ = s .ses .capacity in
         let t : Turn = turnOf s p in
         let d : t .drops ≤ wanted s p = fine .drops in
         let n = held-length (s .rx) (s .ses .buf) (sound-of s g) in
-        plain-go-held c (wanted s p) (cont c (s .msg) p) (held s) x f (omega arith)
-        ∙ ap (λ (y : List ℕ). plain c (cont c (s .msg) p y) (held s ++ x)) (view s g (wanted s p) l)
+        plain-go-held c (wanted s p) (cont δ c (s .msg) p) (held s) x f (omega arith)
+        ∙ ap (λ (y : List ℕ). plain c (cont δ c (s .msg) p y) (held s ++ x)) (view s g (wanted s p) l)
         ∙ fine .does (held s ++ x)
-        ∙ ap (plain c (thenOf c (s .rx) ((turned s t) .msg) (t .then)))
+        ∙ ap (plain c (thenOf δ c (s .rx) ((turned s t) .msg) (t .then)))
         (drop-append-le (t .drops) (held s) x (omega arith) ∙ ap (λ (y : List ℕ). y ++ x) (sym (held-dropped s g (t .drops) (omega arith))))
 
 -- what follows a turn: an answer, or k at the next phase
 follow-ok : (F : List ℕ → Result) (lost : Bool) (k : St → Phase → Out) (s : St) (h b : ℕ) (t : Then) → Good s → Nearer (s .ses .capacity) h b t
-    → ((x : List ℕ) → F x ≡ plain (s .ses .capacity) (thenOf (s .ses .capacity) (s .rx) (s .msg) t) (held s ++ x))
+    → ((x : List ℕ) → F x ≡ plain (s .ses .capacity) (thenOf (dialectIn (s .ses)) (s .ses .capacity) (s .rx) (s .msg) t) (held s ++ x))
     → ((p : Phase) → rank p + min h 1 < b → Reached (s .ses .capacity) p → Kept (frameOf (s .ses)) lost (at s p) (k s p))
     → Kept (frameOf (s .ses)) lost F (onHop k (followed s t))
 unfolding plain
@@ -423,7 +426,7 @@ module _ (s : St) (p : Phase) (lost : Bool) (g : Good s) (r : Reached (s .ses .c
             frame = refl;
             good = good-pending s g Idle;
             still = refl;
-            same = λ x. plain-full (s .ses .capacity) (wanted s p) (cont (s .ses .capacity) (s .msg) p) (held s ++ x) (ltb-true _ _ e₁);
+            same = λ x. plain-full (s .ses .capacity) (wanted s p) (cont (dialectIn (s .ses)) (s .ses .capacity) (s .msg) p) (held s ++ x) (ltb-true _ _ e₁);
           }
       go false true e₁ e₂ = asked-ok s p g r (ltb-false _ _ e₁) lost (ltb-true _ _ e₂)
       go false false e₁ e₂ =
@@ -464,7 +467,7 @@ module _ {φ : Frame} {F : List ℕ → Result} {lost : Bool} {s : St} {i n : �
   came-same : (x : List ℕ) → F (v ++ x) ≡ at (came s v junk) p x
   came-same x =
       w .same (v ++ x)
-      ∙ ap (plain (s .ses .capacity) (restOf (s .ses .capacity) (s .msg) p))
+      ∙ ap (plain (s .ses .capacity) (restOf (dialectIn (s .ses)) (s .ses .capacity) (s .msg) p))
       (sym (append-assoc (held s) v x) ∙ ap (λ (y : List ℕ). y ++ x) (sym (held-came (s .rx) (s .ses .buf) (sound-of s (w .good)) v junk within)))
 
   read-on-ok : Kept φ lost (λ x. F (v ++ x)) (readOn (came s v junk) p lost)

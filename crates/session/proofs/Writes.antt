@@ -13,7 +13,10 @@ use lib.ListN.{length, getD, take, drop}
 use lib.Seq.{getD-drop, drop-drop}
 use Rattle.protocol.specs.Bytes.{pick, over}
 use Rattle.protocol.specs.Calls.{cutBy}
-use Rattle.protocol.specs.Ids.{published}
+use Rattle.protocol.specs.Ids.{Dialect}
+use Rattle.ids.specs.Ids.{numberOf, dialectOf}
+use Rattle.ids.specs.declared.Ids.{Ids}
+use Rattle.request_message.specs.Composed.{only, asked}
 use Rattle.protocol.specs.Messages as M
 use Rattle.protocol.specs.Messages.{header, messageOf, bytesOfRequest, apart, pieces, dataMost}
 use Rattle.protocol.proofs.Bodies.{pick-cases}
@@ -31,8 +34,8 @@ use Rattle.request.specs.declared.Request.the-variants as Q
 use Rattle.session.specs.declared.Pending.{Pending}
 use Rattle.session.specs.declared.Pending.the-variants.{Writing}
 use Rattle.session.specs.declared.Reply.the-variants as R
-use Rattle.session.specs.State.{St, st, out, half, stepped, at, Good}
-use Rattle.session.specs.Sends.{tidied, carried, sendPiece, messageOut, resumed, isEnd, wroteOn}
+use Rattle.session.specs.State.{dialectIn, St, st, out, half, stepped, at, Good}
+use Rattle.session.specs.Sends.{tidied, carried, idFor, sendPiece, messageOut, resumed, isEnd, wroteOn}
 use Rattle.session.proofs.Buf.{good-at, sound-of, good-tidied, held-tidied}
 use Rattle.session.proofs.Turns.{held}
 
@@ -52,10 +55,27 @@ given-some : (xs : List (List ℕ)) → map given (map some xs) ≡ xs
 given-some [] = refl
 given-some (x ∷ xs) = ap (_∷_ x) (given-some xs)
 
-pub apart-pieces : (q : Request) (part : List ℕ) → apart published (meant q part) ≡ map (bytesIn part) (pieceList q (length part))
-apart-pieces q part =
-    let ps : List Piece = pieceList q (length part) in
-    sym (given-shown part ps ∙ ap (map given) (pieces-shown q part) ∙ given-some (apart published (meant q part)))
+-- the pieces of a message, in a table: those under the number of its one id
+apart-own : (t : Ids) (q : Request) (part : List ℕ) → apart (only (numberOf t (asked q))) (meant q part) ≡ apart (dialectOf t) (meant q part)
+unfolding apart messageOf
+apart-own t Q.Stat part = refl
+apart-own t Q.Sta2 part = refl
+apart-own t Q.List part = refl
+apart-own t Q.Lis2 part = refl
+apart-own t Q.Recv part = refl
+apart-own t (Q.Rcv2 f) part = refl
+apart-own t (Q.Send m) part = refl
+apart-own t (Q.Snd2 m f) part = refl
+apart-own t Q.Data part = refl
+apart-own t (Q.Done m) part = refl
+apart-own t Q.Quit part = refl
+
+pub apart-pieces : (t : Ids) (q : Request) (part : List ℕ)
+    → apart (dialectOf t) (meant q part) ≡ map (bytesIn part) (pieceList (numberOf t (asked q)) q (length part))
+apart-pieces t q part =
+    let i : ℕ = numberOf t (asked q) in
+    let ps : List Piece = pieceList i q (length part) in
+    sym (given-shown part ps ∙ ap (map given) (pieces-shown i q part) ∙ given-some (apart (only i) (meant q part)) ∙ apart-own t q part)
 
 -- ---- the pieces one by one
 
@@ -75,30 +95,30 @@ parts-sent true [] h = tt
 parts-sent true (p ∷ ps) h = sent-more 3 ps (h .1)
 parts-sent false ps h = h
 
-pub pieces-sent : (q : Request) (n : ℕ) → Sent 5 (pieceList q n)
+pub pieces-sent : (i : ℕ) (q : Request) (n : ℕ) → Sent 5 (pieceList i q n)
 unfolding pieceList
-pieces-sent Q.Stat n = (refl, parts-sent (eqb n 0) (partsOf Q.Stat) (refl, tt))
-pieces-sent Q.Sta2 n = (refl, parts-sent (eqb n 0) (partsOf Q.Sta2) (refl, tt))
-pieces-sent Q.List n = (refl, parts-sent (eqb n 0) (partsOf Q.List) (refl, tt))
-pieces-sent Q.Lis2 n = (refl, parts-sent (eqb n 0) (partsOf Q.Lis2) (refl, tt))
-pieces-sent Q.Recv n = (refl, parts-sent (eqb n 0) (partsOf Q.Recv) (refl, tt))
-pieces-sent (Q.Rcv2 f) n = (refl, parts-sent (eqb n 0) (partsOf (Q.Rcv2 f)) (refl, (refl, (refl, tt))))
-pieces-sent (Q.Send m) n = (refl, parts-sent (eqb n 0) (partsOf (Q.Send m)) (refl, (refl, (refl, tt))))
-pieces-sent (Q.Snd2 m f) n = (refl, parts-sent (eqb n 0) (partsOf (Q.Snd2 m f)) (refl, (refl, (refl, (refl, tt)))))
-pieces-sent Q.Data n = (refl, parts-sent (eqb n 0) (partsOf Q.Data) (refl, tt))
-pieces-sent (Q.Done t) n = (refl, parts-sent (eqb n 0) [] tt)
-pieces-sent Q.Quit n = (refl, parts-sent (eqb n 0) [] tt)
+pieces-sent i Q.Stat n = (refl, parts-sent (eqb n 0) (partsOf i Q.Stat) (refl, tt))
+pieces-sent i Q.Sta2 n = (refl, parts-sent (eqb n 0) (partsOf i Q.Sta2) (refl, tt))
+pieces-sent i Q.List n = (refl, parts-sent (eqb n 0) (partsOf i Q.List) (refl, tt))
+pieces-sent i Q.Lis2 n = (refl, parts-sent (eqb n 0) (partsOf i Q.Lis2) (refl, tt))
+pieces-sent i Q.Recv n = (refl, parts-sent (eqb n 0) (partsOf i Q.Recv) (refl, tt))
+pieces-sent i (Q.Rcv2 f) n = (refl, parts-sent (eqb n 0) (partsOf i (Q.Rcv2 f)) (refl, (refl, (refl, tt))))
+pieces-sent i (Q.Send m) n = (refl, parts-sent (eqb n 0) (partsOf i (Q.Send m)) (refl, (refl, (refl, tt))))
+pieces-sent i (Q.Snd2 m f) n = (refl, parts-sent (eqb n 0) (partsOf i (Q.Snd2 m f)) (refl, (refl, (refl, (refl, tt)))))
+pieces-sent i Q.Data n = (refl, parts-sent (eqb n 0) (partsOf i Q.Data) (refl, tt))
+pieces-sent i (Q.Done t) n = (refl, parts-sent (eqb n 0) [] tt)
+pieces-sent i Q.Quit n = (refl, parts-sent (eqb n 0) [] tt)
 
 -- nothing follows the header of a message that has no parts
-pub rest-none : (q : Request) (n : ℕ) → partsOf q ≡ [] → drop 1 (pieceList q n) ≡ []
+pub rest-none : (i : ℕ) (q : Request) (n : ℕ) → partsOf i q ≡ [] → drop 1 (pieceList i q n) ≡ []
 unfolding pieceList
-rest-none q n e = rw e (pick-cases (λ (ps : List Piece). ps ≡ []) (eqb n 0) (λ _. refl) (λ _. refl))
+rest-none i q n e = rw e (pick-cases (λ (ps : List Piece). ps ≡ []) (eqb n 0) (λ _. refl) (λ _. refl))
 
 -- the k-th piece, where the rest of the list from there on is known, and the rest behind that
-pub piece-at : (q : Request) (n k : ℕ) (r : List Piece) → drop k (pieceList q n) ≡ r → pieceOf q n k ≡ getD r 0 End
+pub piece-at : (j : ℕ) (q : Request) (n k : ℕ) (r : List Piece) → drop k (pieceList j q n) ≡ r → pieceOf j q n k ≡ getD r 0 End
 unfolding pieceOf
-piece-at q n k r e =
-    ap (λ (i : ℕ). getD (pieceList q n) i End) (sym (add-zero k)) ∙ sym (getD-drop k (pieceList q n) 0 End) ∙ ap (λ (y : List Piece). getD y 0 End) e
+piece-at j q n k r e =
+    ap (λ (i : ℕ). getD (pieceList j q n) i End) (sym (add-zero k)) ∙ sym (getD-drop k (pieceList j q n) 0 End) ∙ ap (λ (y : List Piece). getD y 0 End) e
 
 pub drop-rest : (l r : List Piece) (k : ℕ) → drop k l ≡ r → drop (k + 1) l ≡ drop 1 r
 drop-rest l r k e = sym (drop-drop 1 k l) ∙ ap (drop 1) e
@@ -108,14 +128,14 @@ module _ (t : St) (q : Request) (from k : ℕ) (lent : List ℕ) (some : 0 < k) 
   abbrev count : ℕ
   count = length (carried q from lent)
 
-  pub wrote-last : drop k (pieceList q count) ≡ [] → wroteOn t q from k lent ≡ resumed t q from lent
+  pub wrote-last : drop k (pieceList (idFor (t .ses) q) q count) ≡ [] → wroteOn t q from k lent ≡ resumed t q from lent
   unfolding wroteOn
-  wrote-last e = rw (ne-eqb k 0 (omega arith), ap isEnd (piece-at q count k [] e))
+  wrote-last e = rw (ne-eqb k 0 (omega arith), ap isEnd (piece-at (idFor (t .ses) q) q count k [] e))
 
-  pub wrote-more : (p : Piece) (ps : List Piece) → drop k (pieceList q count) ≡ p ∷ ps → isEnd p ≡ false
+  pub wrote-more : (p : Piece) (ps : List Piece) → drop k (pieceList (idFor (t .ses) q) q count) ≡ p ∷ ps → isEnd p ≡ false
       → wroteOn t q from k lent ≡ out (sendPiece (t .ses) q from count k) (t .rx) (t .msg)
   unfolding wroteOn
-  wrote-more p ps e z = rw (ne-eqb k 0 (omega arith), ap isEnd (piece-at q count k (p ∷ ps) e) ∙ z)
+  wrote-more p ps e z = rw (ne-eqb k 0 (omega arith), ap isEnd (piece-at (idFor (t .ses) q) q count k (p ∷ ps) e) ∙ z)
 
 -- ---- a message in the free end
 
@@ -148,7 +168,7 @@ module _ (s : St) (good : Good s) (m : List ℕ) where
 -- a message that fits the free end goes out whole, any other in pieces
 module _ (s : St) (good : Good s) (q : Request) (from : ℕ) (part : List ℕ) where
   abbrev bytes : List ℕ
-  bytes = bytesOfRequest published (meant q part)
+  bytes = bytesOfRequest (dialectIn (s .ses)) (meant q part)
 
   pub message-whole : length (held s) + length bytes ≤ s .ses .capacity
       → messageOut (s .ses) (s .rx) q from part
@@ -167,18 +187,18 @@ module _ (s : St) (good : Good s) (q : Request) (from : ℕ) (part : List ℕ) w
       rw (lt-leb _ _ i)
 
 -- the pieces of the plain reader: the same two cases, and a message that is a header only
-module _ (free : ℕ) (q : M.Request) where
-  pub pieces-whole : length (bytesOfRequest published q) ≤ free → pieces published free q ≡ bytesOfRequest published q ∷ []
+module _ (δ : Dialect) (free : ℕ) (q : M.Request) where
+  pub pieces-whole : length (bytesOfRequest δ q) ≤ free → pieces δ free q ≡ bytesOfRequest δ q ∷ []
   unfolding pieces
   pieces-whole h = rw (le-leb _ _ h)
 
-  pub pieces-apart : free < length (bytesOfRequest published q) → pieces published free q ≡ apart published q
+  pub pieces-apart : free < length (bytesOfRequest δ q) → pieces δ free q ≡ apart δ q
   unfolding pieces
   pieces-apart h = rw (lt-leb _ _ h)
 
-  pub pieces-bare : messageOf published q .parts ≡ [] → pieces published free q ≡ apart published q
+  pub pieces-bare : messageOf δ q .parts ≡ [] → pieces δ free q ≡ apart δ q
   unfolding pieces apart bytesOfRequest
-  pieces-bare e = rw (e, append-nil) (go (leb (length (header published (messageOf published q))) free))
+  pieces-bare e = rw (e, append-nil) (go (leb (length (header δ (messageOf δ q))) free))
     where
       go : {x : List (List ℕ)} (b : Bool) → pick b x x ≡ x
       go true = refl

@@ -9,9 +9,9 @@ use lib.ListN.{length}
 use Rattle.protocol.specs.Answers as P
 use Rattle.protocol.specs.Bytes.{pick}
 use Rattle.protocol.specs.Refusal.{Setting, requestRefusal}
-use Rattle.protocol.specs.Ids.{published}
 use Rattle.features.specs.Meaning.{listed}
 use Rattle.features.specs.declared.Features.{Features}
+use Rattle.ids.specs.declared.Ids.{Ids}
 use Rattle.recv_buf.specs.RecvBuf.{empty}
 use Rattle.request.specs.Meaning.{meant}
 use Rattle.request.specs.declared.Request.{Request}
@@ -25,14 +25,14 @@ use Rattle.session.specs.declared.Session.{Session}
 use Rattle.session.specs.declared.Stepped.{Stepped}
 use Rattle.session.specs.declared.Version.{Version}
 use Rattle.session.specs.declared.Want.the-variants as W
-use Rattle.session.specs.State.{St, st, Out, out, beside, stepped, begun, refusing}
+use Rattle.session.specs.State.{dialectIn, St, st, Out, out, beside, stepped, begun, refusing}
 use Rattle.session.specs.Steps.{readOn}
 use Rattle.session.specs.Sends.{tidied, carried, sent}
 
 -- ---- opening
 
-abbrev pub fresh : ℕ → ℕ → Features → Session
-fresh capacity message f = record { capacity = capacity; message = message; buf = empty; lent = 0; features = f; ended = false; pending = Idle }
+abbrev pub fresh : ℕ → ℕ → Features → Ids → Session
+fresh capacity message f t = record { capacity = capacity; message = message; buf = empty; lent = 0; features = f; ids = t; ended = false; pending = Idle }
 
 -- 1 a receive buffer under 8, 2 a message buffer shorter than the receive buffer; 0: none
 unfoldable pub openRefusal : ℕ → ℕ → ℕ
@@ -75,7 +75,7 @@ refusalOf s = callRefusal (s .ses) (length (s .rx)) (length (s .msg))
 
 -- 8, 7, 9 and 10, as the plain reader has them
 abbrev pub settingOf : Session → Setting
-settingOf s = record { dialect = published; features = listed (s .features); ended = s .ended }
+settingOf s = record { dialect = dialectIn s; features = listed (s .features); ended = s .ended }
 
 -- a refusal of the plain reader, as the code answers it
 abbrev pub answerOf : P.Answer → Answer

@@ -15,6 +15,7 @@ use Rattle.protocol.specs.Messages as M
 use Rattle.features.specs.declared.Features.{Features}
 use Rattle.format_flags.specs.declared.FileMode.{FileMode}
 use Rattle.format_flags.specs.declared.SyncFlags.{SyncFlags}
+use Rattle.ids.specs.Ids.{idsOf}
 use Rattle.request_piece.specs.Pieces.{byValue}
 use Rattle.recv_buf.specs.RecvBuf.{heldBytes}
 use Rattle.request.specs.declared.Request.{Request}
@@ -104,9 +105,9 @@ abbrev pub coreSystem : System Session
 coreSystem =
     record {
       engine = core;
-      opened = λ x banner rx msg. record {
+      opened = λ x o rx msg. record {
         number = openRefusal (length rx) (length msg);
-        x = pick (eqb (openRefusal (length rx) (length msg)) 0) (fresh (length rx) (length msg) (featuresFrom (featuresOf banner))) x;
+        x = pick (eqb (openRefusal (length rx) (length msg)) 0) (fresh (length rx) (length msg) (featuresFrom (featuresOf (o .banner))) (idsOf (o .table))) x;
       };
       place = λ x. Unit {0};
       lends = λ z. Unit {0};

@@ -11,13 +11,19 @@ use Rattle.protocol.specs.Answers.{Answer, End, closed, error}
 use Rattle.protocol.specs.Bytes.{Bytes}
 use Rattle.protocol.specs.Calls.{Call, call, nextEntry, nextChunk}
 use Rattle.protocol.specs.Features.{featuresOf}
-use Rattle.protocol.specs.Ids.{published}
+use Rattle.protocol.specs.Ids.{Table, under, Legal}
 use Rattle.protocol.specs.Messages.{ask, rcv2, send, snd2, chunk, done, quit, joined}
 use Rattle.protocol.specs.Reader.{Config, Report, accepted, broke, writes, configAfter, plainCall, plainAnswers, plainWrites, isQuit}
 use Rattle.protocol.specs.Records.{argAt}
 use Rattle.protocol_readers.specs.Wider.{Unstopped, Like}
 use Rattle.session.specs.Faithful.{AllAtNeeds, closesFor}
 use Rattle.session.specs.Host.{Spare, Engine, World, Host, Entry, atStart, logOf}
+
+-- What a session is opened with: the banner, and a table of ids that loading accepts (document 02, [9]).
+pub record Opening : Type 0 where
+  pub banner : List ℕ
+  pub table : Table
+  pub legal : Legal table
 
 -- an engine, and the opening of a session on it: an answer's number, 0 for done, and the session
 pub record Opened (X : Type 0) : Type 0 where
@@ -27,7 +33,7 @@ pub record Opened (X : Type 0) : Type 0 where
 -- `place`: what may stand where the session is put; `lends`: what a step may be lent besides
 pub record System (X : Type 0) : Type 1 where
   pub engine : Engine X
-  pub opened : X → (banner rx msg : List ℕ) → Opened X
+  pub opened : X → Opening → (rx msg : List ℕ) → Opened X
   pub place : X → Type 0
   pub lends : Spare → Type 0
 
@@ -80,13 +86,13 @@ pub record Side {X : Type 0} (S : System X) (c : ℕ) (close : Report) : Type 0 
   pub closes : host .close ≡ close
   pub coded : Coded (host .end)
 
--- the plain reader for a session: its capacity and banner, the close report
-abbrev pub reader : (banner : List ℕ) → ℕ → Report → Config
-reader banner c close = record { setting = record { dialect = published; features = featuresOf banner; ended = false }; capacity = c; close = close }
+-- the plain reader for a session: its capacity, banner and table, the close report
+abbrev pub reader : Opening → ℕ → Report → Config
+reader o c close = record { setting = record { dialect = under (o .table); features = featuresOf (o .banner); ended = false }; capacity = c; close = close }
 
 -- the log of the calls, from the session that opening leaves
-abbrev pub logFrom : {X : Type 0} {c : ℕ} {close : Report} (S : System X) → (banner : List ℕ) → List Call → Side S c close → List Entry
-logFrom S banner qs a = logOf (S .engine) (a .host) qs (atStart (a .incoming)) (S .opened (a .x) banner (a .rx) (a .msg) .x) (a .rx) (a .msg)
+abbrev pub logFrom : {X : Type 0} {c : ℕ} {close : Report} (S : System X) → Opening → List Call → Side S c close → List Entry
+logFrom S o qs a = logOf (S .engine) (a .host) qs (atStart (a .incoming)) (S .opened (a .x) o (a .rx) (a .msg) .x) (a .rx) (a .msg)
 
 abbrev pub answersOf : List Entry → List Answer
 answersOf [] = []
@@ -123,31 +129,31 @@ unreads (e ∷ es) = e .unread ∷ unreads es
 abbrev pub failLength : List ℕ → List Entry → ℕ → ℕ
 failLength incoming es k = argAt (getD (incoming ∷ unreads es) k [])
 
-module _ {X : Type 0} (S : System X) (banner : List ℕ) (close : Report) (qs : List Call) (c d : ℕ) (a : Side S c close) (b : Side S d close) where
+module _ {X : Type 0} (S : System X) (o : Opening) (close : Report) (qs : List Call) (c d : ℕ) (a : Side S c close) (b : Side S d close) where
   abbrev logA : List Entry
-  logA = logFrom S banner qs a
+  logA = logFrom S o qs a
 
   abbrev logB : List Entry
-  logB = logFrom S banner qs b
+  logB = logFrom S o qs b
 
   pub record Demand3 : Type 0 where
-    -- "Sessions A and B, with one banner, make the list from fresh, on receive buffers of c and d bytes"
-    pub opens-a : S .opened (a .x) banner (a .rx) (a .msg) .number ≡ 0
-    pub opens-b : S .opened (b .x) banner (b .rx) (b .msg) .number ≡ 0
+    -- "Sessions A and B, with one banner" and one table ([9]: "two sessions that are compared .. have one table"), "make the list from fresh, on receive buffers of c and d bytes"
+    pub opens-a : S .opened (a .x) o (a .rx) (a .msg) .number ≡ 0
+    pub opens-b : S .opened (b .x) o (b .rx) (b .msg) .number ≡ 0
     -- "every call ends"
     pub ends-a : length logA ≡ length qs
     pub ends-b : length logB ≡ length qs
     -- "each session reads only where document 01's plain reader for it says"
-    pub reads-a : ReadsAt (reader banner c close) (a .host .end) qs (a .incoming) logA
-    pub reads-b : ReadsAt (reader banner d close) (b .host .end) qs (b .incoming) logB
+    pub reads-a : ReadsAt (reader o c close) (a .host .end) qs (a .incoming) logA
+    pub reads-b : ReadsAt (reader o d close) (b .host .end) qs (b .incoming) logB
     -- "its answers .. equal that reader's"
-    pub answers-a : answersOf logA ≡ plainAnswers (reader banner c close) (a .host .end) qs (a .incoming)
-    pub answers-b : answersOf logB ≡ plainAnswers (reader banner d close) (b .host .end) qs (b .incoming)
+    pub answers-a : answersOf logA ≡ plainAnswers (reader o c close) (a .host .end) qs (a .incoming)
+    pub answers-b : answersOf logB ≡ plainAnswers (reader o d close) (b .host .end) qs (b .incoming)
     -- ".. and bytes written"
-    pub written-a : writtenOf logA ≡ plainWrites (reader banner c close) qs
-    pub written-b : writtenOf logB ≡ plainWrites (reader banner d close) qs
-    pub closes-a : ClosesAt (reader banner c close) qs logA
-    pub closes-b : ClosesAt (reader banner d close) qs logB
+    pub written-a : writtenOf logA ≡ plainWrites (reader o c close) qs
+    pub written-b : writtenOf logB ≡ plainWrites (reader o d close) qs
+    pub closes-a : ClosesAt (reader o c close) qs logA
+    pub closes-b : ClosesAt (reader o d close) qs logB
     -- "B writes what A writes"
     pub same-writes : writtenOf logB ≡ writtenOf logA
     -- "Before A's first answer 12, 13 or 17 B gives A's answers; only where A's FAIL text is cut, B's text begins with A's instead"
@@ -157,10 +163,10 @@ module _ {X : Type 0} (S : System X) (banner : List ℕ) (close : Report) (qs : 
     -- "With c = d, equal bytes and equal error, all their answers are equal"
     pub same : c ≡ d → a .incoming ≡ b .incoming → a .host .end ≡ b .host .end → answersOf logA ≡ answersOf logB
 
--- The claim: any banner, any close report, any list of calls, any capacities 8 ≤ c ≤ d, any two sides, B's incoming bytes
+-- The claim: any banner, any table that loading accepts, any close report, any list of calls, any capacities 8 ≤ c ≤ d, any two sides, B's incoming bytes
 -- beginning with A's.
 abbrev pub Claim : {X : Type 0} → System X → Type 0
 Claim {X} S =
-    (banner : List ℕ) (close : Report) (qs : List Call) (c d : ℕ) → 8 ≤ c → c ≤ d → CodedReport close → AllWide qs
+    (o : Opening) (close : Report) (qs : List Call) (c d : ℕ) → 8 ≤ c → c ≤ d → CodedReport close → AllWide qs
     → (a : Side S c close) (b : Side S d close) (more : List ℕ) → b .incoming ≡ a .incoming ++ more
-    → Demand3 S banner close qs c d a b
+    → Demand3 S o close qs c d a b

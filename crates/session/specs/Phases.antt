@@ -6,7 +6,7 @@ use mathlib.Core.List.{List, [], _∷_}
 use lib.Dec.{eqb, leb}
 use lib.ListN.{length, getD, take, drop}
 use Rattle.protocol.specs.Bytes.{pick, same}
-use Rattle.protocol.specs.Ids.{Id, letters, STAT, STA2, DATA, DONE, OKAY, FAIL, DENT, DNT2}
+use Rattle.protocol.specs.Ids.{Id, Dialect, STAT, STA2, DATA, DONE, OKAY, FAIL, DENT, DNT2}
 use Rattle.protocol.specs.Records.{idAt, argAt, statAt, dentAt, stat2At, dent2At, Stat2}
 use Rattle.format_record.specs.Told.{statOf, dentOf, stat2Of, dent2Of}
 use Rattle.session.specs.declared.Answer.{Answer}
@@ -47,7 +47,7 @@ stopping n a = record { drops = n; keeps = 0; then = Stop a }
 abbrev pub going : ℕ → Phase → Turn
 going n p = record { drops = n; keeps = 0; then = Go p }
 
--- ---- a header: its id's four bytes, and its arg
+-- ---- a header: its id's four bytes, and its arg; d says which ids are which
 
 abbrev pub unexpectedOf : List ℕ → Answer
 unexpectedOf id = A.Unexpected (getD id 0 0) (getD id 1 0) (getD id 2 0) (getD id 3 0)
@@ -63,15 +63,15 @@ abbrev pub entryIdOf : Version → Id
 entryIdOf V1 = DENT
 entryIdOf V2 = DNT2
 
-abbrev pub proceed : Want → List ℕ → ℕ → Turn
-proceed (W.Stat v) id arg = pick (same id (letters (statIdOf v))) (going 0 (Stat v)) (strange id)
-proceed (W.Entry v) id arg = pick (same id (letters (entryIdOf v))) (going 0 (Entry v)) (pick (same id (letters DONE)) (going 0 (Last v)) (strange id))
-proceed W.Chunk id arg = pick (same id (letters DATA)) (going 0 (Body arg)) (pick (same id (letters DONE)) (stopping 8 A.End) (strange id))
-proceed W.Okay id arg = pick (same id (letters OKAY)) (stopping 8 A.Done) (strange id)
-proceed W.Nothing id arg = stopping 0 A.Closed
+abbrev pub proceed : Dialect → Want → List ℕ → ℕ → Turn
+proceed d (W.Stat v) id arg = pick (same id (d .bytes (statIdOf v))) (going 0 (Stat v)) (strange id)
+proceed d (W.Entry v) id arg = pick (same id (d .bytes (entryIdOf v))) (going 0 (Entry v)) (pick (same id (d .bytes DONE)) (going 0 (Last v)) (strange id))
+proceed d W.Chunk id arg = pick (same id (d .bytes DATA)) (going 0 (Body arg)) (pick (same id (d .bytes DONE)) (stopping 8 A.End) (strange id))
+proceed d W.Okay id arg = pick (same id (d .bytes OKAY)) (stopping 8 A.Done) (strange id)
+proceed d W.Nothing id arg = stopping 0 A.Closed
 
-unfoldable pub headed : Want → List ℕ → ℕ → Turn
-headed w id arg = pick (same id (letters FAIL)) (going 8 (Text arg)) (proceed w id arg)
+unfoldable pub headed : Dialect → Want → List ℕ → ℕ → Turn
+headed d w id arg = pick (same id (d .bytes FAIL)) (going 8 (Text arg)) (proceed d w id arg)
 
 -- ---- the other phases
 
@@ -91,17 +91,17 @@ unfoldable pub drained : ℕ → ℕ → ℕ → ℕ → Turn
 drained d k left text = record { drops = d; keeps = k; then = pick (eqb left 0) (Stop (A.Fail text)) (Go (Rest left text)) }
 
 -- the turn at a phase whose bytes are held from i on
-unfoldable pub turnAt : ℕ → Phase → List ℕ → ℕ → Turn
-turnAt c (Header w) rx i = headed w (idAt (drop i rx)) (argAt (drop i rx))
-turnAt c (Stat v) rx i = statTurn v (drop i rx)
-turnAt c (Entry v) rx i = entryTurn v (drop i rx)
-turnAt c (Last v) rx i = stopping (entrySizeOf v) A.End
-turnAt c (NameV1 d) rx i = stopping (d .namelen) (A.EntryV1 (d .stat) i (d .namelen))
-turnAt c (NameV2 d) rx i = stopping (d .namelen) (A.EntryV2 (d .stat) i (d .namelen))
-turnAt c (Body n) rx i = stopping (8 + n) (A.Chunk (i + 8) n)
-turnAt c (Text n) rx i = drained (min n c) (min n c) (n - min n c) (min n c)
-turnAt c (Rest left text) rx i = drained (min left c) 0 (left - min left c) text
+unfoldable pub turnAt : Dialect → ℕ → Phase → List ℕ → ℕ → Turn
+turnAt d c (Header w) rx i = headed d w (idAt (drop i rx)) (argAt (drop i rx))
+turnAt d c (Stat v) rx i = statTurn v (drop i rx)
+turnAt d c (Entry v) rx i = entryTurn v (drop i rx)
+turnAt d c (Last v) rx i = stopping (entrySizeOf v) A.End
+turnAt d c (NameV1 e) rx i = stopping (e .namelen) (A.EntryV1 (e .stat) i (e .namelen))
+turnAt d c (NameV2 e) rx i = stopping (e .namelen) (A.EntryV2 (e .stat) i (e .namelen))
+turnAt d c (Body n) rx i = stopping (8 + n) (A.Chunk (i + 8) n)
+turnAt d c (Text n) rx i = drained (min n c) (min n c) (n - min n c) (min n c)
+turnAt d c (Rest left text) rx i = drained (min left c) 0 (left - min left c) text
 
 -- ... and nothing where they are not
-unfoldable pub turnIn : ℕ → Phase → List ℕ → ℕ → Turn
-turnIn c p rx i = pick (leb (i + wants c p) (length rx)) (turnAt c p rx i) (stopping 0 A.TooLarge)
+unfoldable pub turnIn : Dialect → ℕ → Phase → List ℕ → ℕ → Turn
+turnIn d c p rx i = pick (leb (i + wants c p) (length rx)) (turnAt d c p rx i) (stopping 0 A.TooLarge)

@@ -5,12 +5,13 @@ use Prim.Native.Nat.{ℕ}
 use mathlib.Core.Bool.{true, false}
 use mathlib.Core.List.{List, [], _∷_, _++_, map}
 use lib.ListN.{replicate}
-use Rattle.protocol.specs.Bytes.{ascii}
+use Rattle.protocol.specs.Bytes.{ascii, le}
 use Rattle.protocol.specs.Fact.{Fact}
+use Rattle.protocol.specs.Ids.{letters}
+use Rattle.ids.specs.Ids.{idsOf}
 use Rattle.recv_buf.specs.RecvBuf.{empty}
 use Rattle.format_flags.specs.declared.FileMode.{FileMode}
 use Rattle.format_flags.specs.declared.SyncFlags.{SyncFlags}
-use Rattle.format_id.specs.declared.SyncId.the-variants as I
 use Rattle.request.specs.declared.Request.{Request}
 use Rattle.request.specs.declared.Request.the-variants as Q
 use Rattle.request_piece.specs.declared.Piece.the-variants as P
@@ -49,7 +50,7 @@ msg = replicate capacity 0
 abbrev pub sessionAt : Pending → St
 sessionAt p =
     st
-    (record { capacity = capacity; message = capacity; buf = empty; lent = tooLong; features = featuresFrom (replicate 7 true); ended = false; pending = p })
+    (record { capacity = capacity; message = capacity; buf = empty; lent = tooLong; features = featuresFrom (replicate 7 true); ids = idsOf letters; ended = false; pending = p })
     rx
     msg
 
@@ -94,13 +95,13 @@ resuming =
     ++ map (wrote 2 (R.Read 0 capacity)) stats
     ++ map (wrote 2 (R.Told A.Done)) paths
     -- what stands behind the path
-    ++ wrote 2 (R.WriteBytes (P.Inner I.Rcv2)) (Q.Rcv2 flags)
+    ++ wrote 2 (R.WriteBytes (P.Inner (le (ascii "RCV2")))) (Q.Rcv2 flags)
     ∷ wrote 3 (R.WriteBytes (P.Word 4)) (Q.Rcv2 flags)
     ∷ wrote 4 (R.Told A.Done) (Q.Rcv2 flags)
     ∷ wrote 2 (R.WriteBytes P.Comma) (Q.Send mode)
     ∷ wrote 3 (R.WriteBytes (P.Digits mode)) (Q.Send mode)
     ∷ wrote 4 (R.Told A.Done) (Q.Send mode)
-    ∷ wrote 2 (R.WriteBytes (P.Inner I.Snd2)) (Q.Snd2 mode flags)
+    ∷ wrote 2 (R.WriteBytes (P.Inner (le (ascii "SND2")))) (Q.Snd2 mode flags)
     ∷ wrote 3 (R.WriteBytes (P.Word 33188)) (Q.Snd2 mode flags)
     ∷ wrote 4 (R.WriteBytes (P.Word 4)) (Q.Snd2 mode flags)
     ∷ wrote 5 (R.Told A.Done) (Q.Snd2 mode flags)

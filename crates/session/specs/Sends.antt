@@ -6,8 +6,9 @@ use mathlib.Core.List.{List}
 use lib.Dec.{eqb, leb}
 use lib.ListN.{length, take, drop}
 use Rattle.protocol.specs.Bytes.{pick, put}
-use Rattle.protocol.specs.Ids.{published}
 use Rattle.protocol.specs.Messages.{bytesOfRequest, dataMost}
+use Rattle.ids.specs.Ids.{numberOf}
+use Rattle.request_message.specs.Composed.{asked}
 use Rattle.request_piece.specs.Pieces.{pieceOf}
 use Rattle.request_piece.specs.declared.Piece.{Piece}
 use Rattle.request_piece.specs.declared.Piece.the-variants as P
@@ -25,7 +26,7 @@ use Rattle.session.specs.declared.Session.{Session}
 use Rattle.session.specs.declared.Stepped.{Stepped}
 use Rattle.session.specs.declared.Version.the-variants.{V1, V2}
 use Rattle.session.specs.declared.Want.the-variants as W
-use Rattle.session.specs.State.{St, st, Out, out, Half, half, beside, stepped, at, answering}
+use Rattle.session.specs.State.{dialectIn, St, st, Out, out, Half, half, beside, stepped, at, answering}
 use Rattle.session.specs.Steps.{readOn}
 
 -- held bytes to the front
@@ -59,16 +60,20 @@ pieceReply from n (P.Inner id) = R.WriteBytes (P.Inner id)
 pieceReply from n (P.Word x) = R.WriteBytes (P.Word x)
 pieceReply from n P.End = R.WriteBytes P.End
 
+-- the number of a request's id, in the session's table
+abbrev pub idFor : Session → Request → ℕ
+idFor s q = numberOf (s .ids) (asked q)
+
 -- the k-th piece, from 0, of a message that goes out in pieces; n bytes are carried
 abbrev pub sendPiece : Session → Request → ℕ → ℕ → ℕ → Stepped
-sendPiece s q from n k = stepped (at s (s .buf) (Writing q from (k + 1))) (pieceReply from n (pieceOf q n k))
+sendPiece s q from n k = stepped (at s (s .buf) (Writing q from (k + 1))) (pieceReply from n (pieceOf (idFor s q) q n k))
 
 -- a message: after compaction whole in the free end where it fits, or its first piece
 unfoldable pub messageOut : Session → List ℕ → Request → ℕ → List ℕ → Half
 messageOut s rx q from part =
     let b = compacted rx (s .buf) .0 in
     let c = compacted rx (s .buf) .1 in
-    let m = bytesOfRequest published (meant q part) in
+    let m = bytesOfRequest (dialectIn s) (meant q part) in
     pick (leb (c .tail + length m) (length b))
     (half (stepped (at s c (Writing q from 0)) (R.WriteRx (c .tail) (length m))) (put b (c .tail) m))
     (half (sendPiece (at s c Idle) q from (length part) 0) b)
@@ -124,5 +129,5 @@ isEnd P.End = true
 unfoldable pub wroteOn : St → Request → ℕ → ℕ → List ℕ → Out
 wroteOn s q from k lent =
     pick (eqb k 0) (resumed s q from lent)
-    (pick (isEnd (pieceOf q (length (carried q from lent)) k)) (resumed s q from lent)
+    (pick (isEnd (pieceOf (idFor (s .ses) q) q (length (carried q from lent)) k)) (resumed s q from lent)
     (out (sendPiece (s .ses) q from (length (carried q from lent)) k) (s .rx) (s .msg)))

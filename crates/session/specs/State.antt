@@ -5,6 +5,8 @@ use mathlib.Core.Bool.{Bool, true, false}
 use mathlib.Core.List.{List}
 use mathlib.Core.Path.{_≡_}
 use lib.ListN.{length}
+use Rattle.protocol.specs.Ids.{Dialect}
+use Rattle.ids.specs.Ids.{dialectOf}
 use Rattle.recv_buf.specs.declared.RecvBuf.{RecvBuf}
 use Rattle.session.specs.declared.Answer.{Answer}
 use Rattle.session.specs.declared.Answer.the-variants as A
@@ -14,6 +16,10 @@ use Rattle.session.specs.declared.Reply.{Reply}
 use Rattle.session.specs.declared.Reply.the-variants.{Told}
 use Rattle.session.specs.declared.Session.{Session}
 use Rattle.session.specs.declared.Stepped.{Stepped}
+
+-- the ids that a session opened with
+abbrev pub dialectIn : Session → Dialect
+dialectIn s = dialectOf (s .ids)
 
 -- a session, every byte of the receive buffer, every byte of the message buffer
 pub record St : Type 0 where
@@ -48,15 +54,15 @@ stepped s r = record { session = s; reply = r }
 
 -- the same session, at another place of the buffer and with another pending step
 abbrev pub at : Session → RecvBuf → Pending → Session
-at s b p = record { capacity = s .capacity; message = s .message; buf = b; lent = s .lent; features = s .features; ended = s .ended; pending = p }
+at s b p = record { capacity = s .capacity; message = s .message; buf = b; lent = s .lent; features = s .features; ids = s .ids; ended = s .ended; pending = p }
 
 -- ... with n bytes lent
 abbrev pub begun : Session → ℕ → Session
-begun s n = record { capacity = s .capacity; message = s .message; buf = s .buf; lent = n; features = s .features; ended = s .ended; pending = s .pending }
+begun s n = record { capacity = s .capacity; message = s .message; buf = s .buf; lent = n; features = s .features; ids = s .ids; ended = s .ended; pending = s .pending }
 
 -- ... ended
 abbrev pub shut : Session → Session
-shut s = record { capacity = s .capacity; message = s .message; buf = s .buf; lent = s .lent; features = s .features; ended = true; pending = Idle }
+shut s = record { capacity = s .capacity; message = s .message; buf = s .buf; lent = s .lent; features = s .features; ids = s .ids; ended = true; pending = Idle }
 
 abbrev pub answering : Session → Answer → Stepped
 answering s a = stepped (at s (s .buf) Idle) (Told a)

@@ -19,7 +19,7 @@ use Rattle.session.specs.declared.Then.{Then}
 use Rattle.session.specs.declared.Then.the-variants.{Stop, Go}
 use Rattle.session.specs.declared.Turn.{Turn}
 use Rattle.session.specs.Phases.{wants, turnAt}
-use Rattle.session.specs.State.{St, st, Out, out, Half, half, beside, stepped, at, answering}
+use Rattle.session.specs.State.{dialectIn, St, st, Out, out, Half, half, beside, stepped, at, answering}
 
 -- ---- reading
 
@@ -58,7 +58,7 @@ followed s (Stop a) = over (out (answering (s .ses) a) (s .rx) (s .msg))
 followed s (Go p) = on s p
 
 abbrev pub turnOf : St → Phase → Turn
-turnOf s p = turnAt (s .ses .capacity) p (s .rx) (s .ses .buf .head)
+turnOf s p = turnAt (dialectIn (s .ses)) (s .ses .capacity) p (s .rx) (s .ses .buf .head)
 
 -- need(n): 17, or a read, or the turn
 unfoldable pub hopped : St → Phase → Bool → HopOut

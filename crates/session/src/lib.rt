@@ -7,6 +7,7 @@ use format_record::DentV1;
 use format_record::DentV2;
 use format_record::StatV1;
 use format_record::StatV2;
+use ids::Ids;
 use recv_buf::RecvBuf;
 use request::Request;
 use request_piece::Piece;
@@ -107,6 +108,8 @@ pub struct Session {
     // the length of the path or data of the pending call
     pub lent: usize,
     pub features: Features,
+    // the ids that it opened with
+    pub ids: Ids,
     pub ended: bool,
     pub pending: Pending,
 }
@@ -117,12 +120,14 @@ impl Session {
         ensures { λ r. ⌜ r ≡ at self buf pending ⌝ }
     {
         let features = self.features;
+        let ids = self.ids;
         Session {
             capacity: self.capacity,
             message: self.message,
             buf,
             lent: self.lent,
             features,
+            ids,
             ended: self.ended,
             pending,
         }
@@ -134,6 +139,7 @@ impl Session {
     {
         let buf = self.buf;
         let features = self.features;
+        let ids = self.ids;
         let pending = self.pending;
         Session {
             capacity: self.capacity,
@@ -141,6 +147,7 @@ impl Session {
             buf,
             lent,
             features,
+            ids,
             ended: self.ended,
             pending,
         }
@@ -152,12 +159,14 @@ impl Session {
     {
         let buf = self.buf;
         let features = self.features;
+        let ids = self.ids;
         Session {
             capacity: self.capacity,
             message: self.message,
             buf,
             lent: self.lent,
             features,
+            ids,
             ended: true,
             pending: Pending::Idle,
         }

@@ -10,9 +10,12 @@ use Rattle.protocol.specs.Refusal.{requestRefusal}
 use Rattle.protocol.specs.Features.{featuresOf}
 use Rattle.features.specs.Meaning.{listed}
 use Rattle.features.specs.declared.Features.{Features}
+use Rattle.protocol.specs.Ids.{letters}
+use Rattle.ids.specs.Ids.{tableOf}
+use Rattle.ids.specs.declared.Ids.{Ids}
 use Rattle.recv_buf.specs.RecvBuf.{empty}
 use Rattle.recv_buf.specs.declared.RecvBuf.{RecvBuf}
-use Rattle.request_refusal.proofs.Laws.{ended-alike}
+use Rattle.request_refusal.proofs.Laws.{alike}
 use Rattle.request_refusal.specs.Meaning.{checked, setting}
 use Rattle.request_refusal.specs.declared.Check.{Check}
 use Rattle.request.specs.Meaning.{meant}
@@ -27,6 +30,7 @@ use Rattle.session.specs.Steps.{readOn}
 use Rattle.session.specs.Sends.{tidied, carried, sent}
 use Rattle.session.specs.declared.Pending.the-variants.{Idle}
 use Rattle.session.specs.declared.Phase.the-variants.{Header}
+use Rattle.session.specs.declared.Session.{Session}
 use Rattle.session.specs.declared.Version.{Version}
 use Rattle.session.specs.declared.Want.the-variants as W
 use Rattle.session_calls.specs.Opening.{opened}
@@ -34,16 +38,14 @@ use Rattle.session_calls.specs.declared.Opened.the-variants as O
 
 -- ---- opening
 
-module _ (banner : List ℕ) (capacity message : ℕ) where
-  pub opened-out : (n : ℕ) → openRefusal capacity message ≡ n → 0 < n → O.Refused n ≡ opened banner capacity message
+module _ (banner : List ℕ) (ids : Ids) (capacity message n : ℕ) (e : n ≡ openRefusal capacity message) where
+  pub opened-out : 0 < n → O.Refused n ≡ opened banner ids capacity message
   unfolding opened
-  opened-out n e h = rw (e, lt-ltb 0 n h)
+  opened-out h = rw (← e, lt-ltb 0 n h)
 
-  pub opened-in : openRefusal capacity message ≡ 0 → (f : Features) → listed f ≡ featuresOf banner → O.Session (fresh capacity message f) ≡ opened banner capacity message
+  pub opened-in : n ≤ 0 → (s : Session) → s ≡ fresh capacity message (featuresFrom (featuresOf banner)) ids → O.Session s ≡ opened banner ids capacity message
   unfolding opened
-  opened-in e f g =
-      let z : 0 ≤ 0 = omega arith in
-      rw (e, le-ltb 0 0 z) (ap (λ (x : Features). O.Session (fresh capacity message x)) (ap featuresFrom g))
+  opened-in h s f = rw (← e, le-ltb 0 n h, f)
 
 -- ---- a call that is not refused by 3, 6 or 4
 
@@ -67,9 +69,9 @@ module _ (s : St) (k : ℕ) (e : k ≡ refusalOf s) (h : k ≤ 0) where
     unfolding chunkCall
     chunk-in = guarded-in (tidied ready) _ (good-tidied ready ready-good) ∙ unless-in s k _ _ e h
 
-  -- what the request is refused for, or its first message
+  -- what the request is refused for, in any table, or its first message
   pub start-in : (q : Request) (lent : List ℕ) (check is : Check) → check ≡ is → checked check ≡ requestRefusal (setting (s .ses .features)) (meant q lent)
       → orRefuse (checked is) s (beside (sent (begun (s .ses) (length lent)) (s .rx) q 0 (carried q 0 lent)) (s .msg)) ≡ startCall s q lent
   unfolding startCall
   start-in q lent check is f g =
-      rw (← f, g, ended-alike _ _ false (s .ses .ended) (meant q lent)) (unless-in s k _ _ e h)
+      rw (← f, g, alike letters (tableOf (s .ses .ids)) _ false (s .ses .ended) (meant q lent)) (unless-in s k _ _ e h)

@@ -1,11 +1,14 @@
 // Opens a session and starts its calls: the refusals in their order, then the first step (000's sync.rs, `SyncSession`).
 ghost use mathlib.Core.Path.{_≡_};
 ghost use lib.ListN.{length};
-ghost use Rattle.session.specs.Calls.{callRefusal, startCall, entryCall, chunkCall};
+ghost use Rattle.protocol.specs.Features.{featuresOf};
+ghost use Rattle.session.specs.Core.{featuresFrom};
+ghost use Rattle.session.specs.Calls.{fresh, openRefusal, callRefusal, startCall, entryCall, chunkCall};
 ghost use Rattle.session.specs.State.{st, out, half, begun};
 ghost use Rattle.session.specs.Sends.{carried, sent};
 ghost use Rattle.session_calls.specs.Opening.{opened};
 use features::Features;
+use ids::Ids;
 use recv_buf::RecvBuf;
 use request::Request;
 use request_refusal::Check;
@@ -24,29 +27,47 @@ use session_sender::send;
 
 pub enum Opened {
     Session(Session),
-    // 1 a receive buffer under 8 bytes, 2 a message buffer that is shorter than it
     Refused(u8),
 }
 
-// A fresh session for buffers of these lengths.
-pub fn open(banner: &[u8], capacity: usize, message: usize) -> Opened
-    ensures { λ r. ⌜ r ≡ opened (now (banner .entry)) capacity message ⌝ }
+// 1 a receive buffer under 8 bytes, 2 a message buffer that is shorter than it; 0 none.
+pub fn open_refusal(capacity: usize, message: usize) -> u8
+    ensures { λ r. ⌜ r ≡ openRefusal capacity message ⌝ }
 {
     if capacity < 8 {
-        return Opened::Refused(1);
+        return 1;
     }
     if message < capacity {
-        return Opened::Refused(2);
+        return 2;
     }
-    Opened::Session(Session {
+    0
+}
+
+// A session of that banner and those ids, for buffers of these lengths.
+pub fn fresh(banner: &[u8], ids: Ids, capacity: usize, message: usize) -> Session
+    ensures { λ r. ⌜ r ≡ fresh capacity message (featuresFrom (featuresOf (now (banner .entry)))) ids ⌝ }
+{
+    Session {
         capacity,
         message,
         buf: RecvBuf::new(),
         lent: 0,
         features: Features::of(banner),
+        ids,
         ended: false,
         pending: Pending::Idle,
-    })
+    }
+}
+
+// The same, where the lengths are not refused.
+pub fn open(banner: &[u8], ids: Ids, capacity: usize, message: usize) -> Opened
+    ensures { λ r. ⌜ r ≡ opened (now (banner .entry)) ids capacity message ⌝ }
+{
+    let n = open_refusal(capacity, message);
+    if 0 < n {
+        return Opened::Refused(n);
+    }
+    Opened::Session(fresh(banner, ids, capacity, message))
 }
 
 // 3 other buffers, 6 an ended session, 4 a pending call; 0 none.

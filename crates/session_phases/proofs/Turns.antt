@@ -7,7 +7,7 @@ use native.Mathlib.Omega.{arith}
 use borrow.Author.Tests.{le-leb, lt-leb}
 use lib.ListN.{length, drop}
 use Rattle.protocol.specs.Bytes.{pick, same}
-use Rattle.protocol.specs.Ids.{letters, DATA, DONE, OKAY, FAIL}
+use Rattle.protocol.specs.Ids.{Dialect, DATA, DONE, OKAY, FAIL}
 use Rattle.protocol.specs.Records.{idAt, argAt}
 use Rattle.session.specs.declared.Answer.the-variants as A
 use Rattle.session.specs.declared.Phase.{Phase}
@@ -32,12 +32,12 @@ entry-size-small V1 = omega arith
 entry-size-small V2 = omega arith
 
 -- the two cases of `turnIn`
-module _ (c : ℕ) (p : Phase) (rx : List ℕ) (i : ℕ) where
-  pub turn-in : i + wants c p ≤ length rx → turnIn c p rx i ≡ turnAt c p rx i
+module _ (δ : Dialect) (c : ℕ) (p : Phase) (rx : List ℕ) (i : ℕ) where
+  pub turn-in : i + wants c p ≤ length rx → turnIn δ c p rx i ≡ turnAt δ c p rx i
   unfolding turnIn
   turn-in h = simp (le-leb _ _ h)
 
-  pub turn-out : length rx < i + wants c p → turnIn c p rx i ≡ stopping 0 A.TooLarge
+  pub turn-out : length rx < i + wants c p → turnIn δ c p rx i ≡ stopping 0 A.TooLarge
   unfolding turnIn
   turn-out h = simp (lt-leb _ _ h)
 
@@ -49,32 +49,32 @@ either : (n : ℕ) (b : Bool) (t u : Turn) → Within n t → Within n u → Wit
 either n true t u g h = g
 either n false t u g h = h
 
-proceed-within : (w : Want) (id : List ℕ) (arg : ℕ) → Within 8 (proceed w id arg)
-proceed-within (W.Stat v) id arg = either 8 (same id (letters (statIdOf v))) _ _ (omega arith) (omega arith)
-proceed-within (W.Entry v) id arg =
-    either 8 (same id (letters (entryIdOf v))) _ _ (omega arith) (either 8 (same id (letters DONE)) _ _ (omega arith) (omega arith))
-proceed-within W.Chunk id arg = either 8 (same id (letters DATA)) _ _ (omega arith) (either 8 (same id (letters DONE)) _ _ (omega arith) (omega arith))
-proceed-within W.Okay id arg = either 8 (same id (letters OKAY)) _ _ (omega arith) (omega arith)
-proceed-within W.Nothing id arg = omega arith
+proceed-within : (δ : Dialect) (w : Want) (id : List ℕ) (arg : ℕ) → Within 8 (proceed δ w id arg)
+proceed-within δ (W.Stat v) id arg = either 8 (same id (δ .bytes (statIdOf v))) _ _ (omega arith) (omega arith)
+proceed-within δ (W.Entry v) id arg =
+    either 8 (same id (δ .bytes (entryIdOf v))) _ _ (omega arith) (either 8 (same id (δ .bytes DONE)) _ _ (omega arith) (omega arith))
+proceed-within δ W.Chunk id arg = either 8 (same id (δ .bytes DATA)) _ _ (omega arith) (either 8 (same id (δ .bytes DONE)) _ _ (omega arith) (omega arith))
+proceed-within δ W.Okay id arg = either 8 (same id (δ .bytes OKAY)) _ _ (omega arith) (omega arith)
+proceed-within δ W.Nothing id arg = omega arith
 
-turn-within : (c : ℕ) (p : Phase) (rx : List ℕ) (i : ℕ) → Within (wants c p) (turnAt c p rx i)
+turn-within : (δ : Dialect) (c : ℕ) (p : Phase) (rx : List ℕ) (i : ℕ) → Within (wants c p) (turnAt δ c p rx i)
 unfolding wants turnAt headed drained
-turn-within c (Header w) rx i = either 8 (same (idAt (drop i rx)) (letters FAIL)) _ _ (omega arith) (proceed-within w (idAt (drop i rx)) (argAt (drop i rx)))
-turn-within c (Stat V1) rx i = omega arith
-turn-within c (Stat V2) rx i = omega arith
-turn-within c (Entry V1) rx i = omega arith
-turn-within c (Entry V2) rx i = omega arith
-turn-within c (Last v) rx i = omega arith
-turn-within c (NameV1 d) rx i = omega arith
-turn-within c (NameV2 d) rx i = omega arith
-turn-within c (Body n) rx i = omega arith
-turn-within c (Text n) rx i = omega arith
-turn-within c (Rest left text) rx i = omega arith
+turn-within δ c (Header w) rx i = either 8 (same (idAt (drop i rx)) (δ .bytes FAIL)) _ _ (omega arith) (proceed-within δ w (idAt (drop i rx)) (argAt (drop i rx)))
+turn-within δ c (Stat V1) rx i = omega arith
+turn-within δ c (Stat V2) rx i = omega arith
+turn-within δ c (Entry V1) rx i = omega arith
+turn-within δ c (Entry V2) rx i = omega arith
+turn-within δ c (Last v) rx i = omega arith
+turn-within δ c (NameV1 d) rx i = omega arith
+turn-within δ c (NameV2 d) rx i = omega arith
+turn-within δ c (Body n) rx i = omega arith
+turn-within δ c (Text n) rx i = omega arith
+turn-within δ c (Rest left text) rx i = omega arith
 
 -- a turn drops and keeps no more than was wanted
-module _ (c : ℕ) (p : Phase) (rx : List ℕ) (i : ℕ) where
-  pub turn-drops : turnAt c p rx i .drops ≤ wants c p
-  turn-drops = turn-within c p rx i .0
+module _ (δ : Dialect) (c : ℕ) (p : Phase) (rx : List ℕ) (i : ℕ) where
+  pub turn-drops : turnAt δ c p rx i .drops ≤ wants c p
+  turn-drops = turn-within δ c p rx i .0
 
-  pub turn-keeps : turnAt c p rx i .keeps ≤ wants c p
-  turn-keeps = turn-within c p rx i .1
+  pub turn-keeps : turnAt δ c p rx i .keeps ≤ wants c p
+  turn-keeps = turn-within δ c p rx i .1

@@ -2,10 +2,12 @@
 ghost use mathlib.Core.Path.{_≡_};
 ghost use Prim.Native.Nat.{_+_, _-_, _<_, _≤_, min, max};
 ghost use lib.ListN.{length, drop};
-ghost use Rattle.protocol.specs.Bytes.{le};
-ghost use Rattle.protocol.specs.Ids.{letters};
-ghost use Rattle.protocol.specs.Records.{idAt, argAt, u32At};
+ghost use Rattle.protocol.specs.Bytes.{same};
+ghost use Rattle.protocol.specs.Records.{idAt, argAt};
+ghost use Rattle.format_id.specs.Ids.{idOf};
+ghost use Rattle.ids.specs.Ids.{tableOf, dialectOf};
 ghost use Rattle.session.specs.Phases.{wants, statSizeOf, entrySizeOf, stopping, going, strange, statIdOf, entryIdOf, proceed, headed, statTurn, entryTurn, drained, turnAt, turnIn};
+use format_id::SyncId;
 use format_number::u32_at;
 use format_record::DENT_V1_SIZE;
 use format_record::DENT_V2_SIZE;
@@ -18,29 +20,13 @@ use format_record::dent_v1_at;
 use format_record::dent_v2_at;
 use format_record::stat_v1_at;
 use format_record::stat_v2_at;
+use ids::Ids;
 use session::Answer;
 use session::Phase;
 use session::Then;
 use session::Turn;
 use session::Version;
 use session::Want;
-
-// The numbers that the letters of an id spell, the first letter lowest.
-const STAT: u32 = 0x5441_5453;
-
-const STA2: u32 = 0x3241_5453;
-
-const DATA: u32 = 0x4154_4144;
-
-const DONE: u32 = 0x454e_4f44;
-
-const OKAY: u32 = 0x5941_4b4f;
-
-const FAIL: u32 = 0x4c49_4146;
-
-const DENT: u32 = 0x544e_4544;
-
-const DNT2: u32 = 0x3254_4e44;
 
 fn smaller(a: usize, b: usize) -> usize
     ensures { λ r. ⌜ r ≡ min a b ⌝ }
@@ -106,22 +92,30 @@ fn goes(drops: usize, p: Phase) -> Turn
 
 // ---- a header
 
-pub fn stat_id(v: Version) -> u32
-    ensures { λ r. ⌜ r ≡ le (letters (statIdOf v)) ⌝ }
+pub fn stat_id(v: Version) -> SyncId
+    ensures { λ r. ⌜ idOf r ≡ statIdOf v ⌝ }
 {
     match v {
-        Version::V1 => STAT,
-        Version::V2 => STA2,
+        Version::V1 => SyncId::Stat,
+        Version::V2 => SyncId::Sta2,
     }
 }
 
-pub fn entry_id(v: Version) -> u32
-    ensures { λ r. ⌜ r ≡ le (letters (entryIdOf v)) ⌝ }
+pub fn entry_id(v: Version) -> SyncId
+    ensures { λ r. ⌜ idOf r ≡ entryIdOf v ⌝ }
 {
     match v {
-        Version::V1 => DENT,
-        Version::V2 => DNT2,
+        Version::V1 => SyncId::Dent,
+        Version::V2 => SyncId::Dnt2,
     }
+}
+
+// Whether the id of the header at head is this one's.
+fn is_id(ids: Ids, id: SyncId, rx: &[u8], head: usize) -> bool
+    requires { ⌜ head + 4 ≤ length (now rx) ⌝ }
+    ensures { λ r. ⌜ r ≡ same (idAt (drop head (now (rx .entry)))) (tableOf ids (idOf id)) ⌝ }
+{
+    u32_at(rx, head) == ids.number(id)
 }
 
 // An id that is not allowed: the header is left.
@@ -136,38 +130,38 @@ fn unexpected(rx: &[u8], head: usize) -> Turn
     stops(0, Answer::Unexpected(a, b, c, d))
 }
 
-// A header that is no FAIL; id and arg are its numbers.
-fn proceeds(w: Want, id: u32, arg: u32, rx: &[u8], head: usize) -> Turn
-    requires { ⌜ (head + 4 ≤ length (now rx)) × (id ≡ u32At 0 (drop head (now rx))) ⌝ }
-    ensures { λ r. ⌜ r ≡ proceed w (idAt (drop head (now (rx .entry)))) arg ⌝ }
+// A header that is no FAIL.
+fn proceeds(ids: Ids, w: Want, arg: u32, rx: &[u8], head: usize) -> Turn
+    requires { ⌜ head + 4 ≤ length (now rx) ⌝ }
+    ensures { λ r. ⌜ r ≡ proceed (dialectOf ids) w (idAt (drop head (now (rx .entry)))) arg ⌝ }
 {
     match w {
         Want::Stat(v) => {
-            if id == stat_id(v) {
+            if is_id(ids, stat_id(v), rx, head) {
                 return goes(0, Phase::Stat(v));
             }
             unexpected(rx, head)
         }
         Want::Entry(v) => {
-            if id == entry_id(v) {
+            if is_id(ids, entry_id(v), rx, head) {
                 return goes(0, Phase::Entry(v));
             }
-            if id == DONE {
+            if is_id(ids, SyncId::Done, rx, head) {
                 return goes(0, Phase::Last(v));
             }
             unexpected(rx, head)
         }
         Want::Chunk => {
-            if id == DATA {
+            if is_id(ids, SyncId::Data, rx, head) {
                 return goes(0, Phase::Body(arg));
             }
-            if id == DONE {
+            if is_id(ids, SyncId::Done, rx, head) {
                 return stops(HEADER_SIZE, Answer::End);
             }
             unexpected(rx, head)
         }
         Want::Okay => {
-            if id == OKAY {
+            if is_id(ids, SyncId::Okay, rx, head) {
                 return stops(HEADER_SIZE, Answer::Done);
             }
             unexpected(rx, head)
@@ -176,16 +170,15 @@ fn proceeds(w: Want, id: u32, arg: u32, rx: &[u8], head: usize) -> Turn
     }
 }
 
-fn header(w: Want, rx: &[u8], head: usize) -> Turn
+fn header(ids: Ids, w: Want, rx: &[u8], head: usize) -> Turn
     requires { ⌜ head + 8 ≤ length (now rx) ⌝ }
-    ensures { λ r. ⌜ r ≡ headed w (idAt (drop head (now (rx .entry)))) (argAt (drop head (now (rx .entry)))) ⌝ }
+    ensures { λ r. ⌜ r ≡ headed (dialectOf ids) w (idAt (drop head (now (rx .entry)))) (argAt (drop head (now (rx .entry)))) ⌝ }
 {
-    let id = u32_at(rx, head);
     let arg = u32_at(rx, head + 4);
-    if id == FAIL {
+    if is_id(ids, SyncId::Fail, rx, head) {
         return goes(HEADER_SIZE, Phase::Text(arg));
     }
-    proceeds(w, id, arg, rx, head)
+    proceeds(ids, w, arg, rx, head)
 }
 
 // ---- the other phases
@@ -305,12 +298,12 @@ fn rest(left: usize, text: usize, capacity: usize) -> Turn
 }
 
 // The turn at a phase whose bytes are held from head on.
-fn turn(capacity: usize, p: Phase, rx: &[u8], head: usize) -> Turn
+fn turn(ids: Ids, capacity: usize, p: Phase, rx: &[u8], head: usize) -> Turn
     requires { ⌜ head + wants capacity p ≤ length (now rx) ⌝ }
-    ensures { λ r. ⌜ r ≡ turnAt capacity p (now (rx .entry)) head ⌝ }
+    ensures { λ r. ⌜ r ≡ turnAt (dialectOf ids) capacity p (now (rx .entry)) head ⌝ }
 {
     match p {
-        Phase::Header(w) => header(w, rx, head),
+        Phase::Header(w) => header(ids, w, rx, head),
         Phase::Stat(v) => stat(v, rx, head),
         Phase::Entry(v) => entry(v, rx, head),
         Phase::Last(v) => last(v),
@@ -323,8 +316,8 @@ fn turn(capacity: usize, p: Phase, rx: &[u8], head: usize) -> Turn
 }
 
 // The turn at a phase; nothing where its bytes are not there.
-pub fn turn_at(capacity: usize, p: Phase, rx: &[u8], head: usize) -> Turn
-    ensures { λ r. ⌜ r ≡ turnIn capacity p (now (rx .entry)) head ⌝ }
+pub fn turn_at(ids: Ids, capacity: usize, p: Phase, rx: &[u8], head: usize) -> Turn
+    ensures { λ r. ⌜ r ≡ turnIn (dialectOf ids) capacity p (now (rx .entry)) head ⌝ }
 {
     let n = wants(capacity, p);
     if rx.len() < n {
@@ -334,5 +327,5 @@ pub fn turn_at(capacity: usize, p: Phase, rx: &[u8], head: usize) -> Turn
     if last < head {
         return stops(0, Answer::TooLarge);
     }
-    turn(capacity, p, rx, head)
+    turn(ids, capacity, p, rx, head)
 }

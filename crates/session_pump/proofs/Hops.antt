@@ -9,7 +9,7 @@ use native.Mathlib.Omega.{arith}
 use borrow.Author.Tests.{lt-ltb, le-ltb}
 use Rattle.recv_buf.specs.RecvBuf.{heldCount}
 use Rattle.session.specs.Phases.{wants}
-use Rattle.session.specs.State.{St, st, out, beside, answering, Good}
+use Rattle.session.specs.State.{dialectIn, St, st, out, beside, answering, Good}
 use Rattle.session.specs.Steps.{asked, HopOut, over, on, hopOut, turned, turnOf, followed, hopped, pumped}
 use Rattle.session.specs.declared.Answer.{Answer}
 use Rattle.session.specs.declared.Answer.the-variants.{TooLarge}
@@ -56,8 +56,8 @@ GoodOn (on s p) = Good s
 module _ (s : St) (p : Phase) (lost : Bool) (g : Good s) where
   turned-good : wants (s .ses .capacity) p ≤ heldCount (s .ses .buf) → Good (turned s (turnOf s p))
   turned-good h =
-      let d = turn-drops (s .ses .capacity) p (s .rx) (s .ses .buf .head) in
-      let k = turn-keeps (s .ses .capacity) p (s .rx) (s .ses .buf .head) in
+      let d = turn-drops (dialectIn (s .ses)) (s .ses .capacity) p (s .rx) (s .ses .buf .head) in
+      let k = turn-keeps (dialectIn (s .ses)) (s .ses .capacity) p (s .rx) (s .ses .buf .head) in
       good-at s _ (s .rx) (turned s (turnOf s p) .msg) Idle g (omega arith) (g .inside) refl
       (kept-length (s .rx) (s .msg) (s .ses .buf .head) (turnOf s p .keeps) (omega arith) (omega arith))
 

@@ -81,7 +81,7 @@ fn hop(s: Session, p: Phase, lost: bool, rx: &mut [u8], msg: &mut [u8]) -> Hop
         return Hop::Over(ask(s, p, lost, rx));
     }
     let from = buf.head;
-    let turn = turn_at(capacity, p, rx, from);
+    let turn = turn_at(s.ids, capacity, p, rx, from);
     keep_text(rx, from, turn.keeps, msg);
     let rest = taking(buf, turn.drops);
     let next = s.at(rest, Pending::Idle);

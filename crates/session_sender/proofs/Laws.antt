@@ -2,7 +2,7 @@
 use Prim.Native.Nat.{ℕ, _+_, _-_, _≤_, _<_}
 use mathlib.Core.Bool.{Bool, true, false, true≢false}
 use mathlib.Core.List.{List}
-use mathlib.Core.Path.{_≡_, sym, ap, _∙_}
+use mathlib.Core.Path.{_≡_, refl, sym, ap, _∙_}
 use native.Mathlib.Decide.{decLe}
 use native.Mathlib.Nat.{lt-of-not-le}
 use native.Mathlib.Omega.{arith}
@@ -10,12 +10,13 @@ use borrow.Author.Tests.{le-leb, lt-leb, eq-eqb, ne-eqb}
 use lib.Dec.{eqb, leb}
 use lib.ListN.{length, drop, length-append, length-take, length-drop, List·getD-eq-default}
 use Rattle.protocol.specs.Bytes.{pick, put}
-use Rattle.protocol.specs.Ids.{published}
+use Rattle.ids.specs.Ids.{numberOf, dialectOf}
+use Rattle.ids.specs.declared.Ids.{Ids}
 use Rattle.protocol.specs.Messages.{dataMost, header, joined, messageOf, bytesOfRequest}
 use Rattle.protocol.specs.Messages as M
 use Rattle.protocol.proofs.Bytes.{put-out, putLength-in, putLength-out}
 use Rattle.request_message.proofs.Laws.{header-bytes}
-use Rattle.request_message.specs.Composed.{placed}
+use Rattle.request_message.specs.Composed.{only, asked, placed}
 use Rattle.request_piece.specs.Pieces.{partsOf, pieceList, pieceOf}
 use Rattle.request_piece.specs.declared.Piece.{Piece}
 use Rattle.request_piece.specs.declared.Piece.the-variants.{End}
@@ -24,8 +25,8 @@ use Rattle.recv_buf.specs.declared.RecvBuf.{RecvBuf}
 use Rattle.request.specs.Meaning.{meant}
 use Rattle.request.specs.declared.Request.{Request}
 use Rattle.request.specs.declared.Request.the-variants as Q
-use Rattle.session.specs.State.{St, out, Half, half, stepped, at}
-use Rattle.session.specs.Sends.{carried, isEnd, sendPiece, messageOut, sent, resumed, wroteOn}
+use Rattle.session.specs.State.{dialectIn, St, out, Half, half, stepped, at}
+use Rattle.session.specs.Sends.{carried, isEnd, idFor, sendPiece, messageOut, sent, resumed, wroteOn}
 use Rattle.session.specs.declared.Pending.the-variants.{Idle, Writing}
 use Rattle.session.specs.declared.Reply.the-variants.{WriteRx}
 use Rattle.session.specs.declared.Session.{Session}
@@ -46,50 +47,71 @@ data-on s rx from lent d p e f = rw (f, e)
 
 -- ---- how long a message is, and how many pieces it has
 
-message-long : (q : M.Request) → 8 ≤ length (bytesOfRequest published q)
+message-long : (t : Ids) (q : M.Request) → 8 ≤ length (bytesOfRequest (dialectOf t) q)
 unfolding bytesOfRequest
-message-long q =
-    rw (length-append (header published (messageOf published q)) (joined (messageOf published q .parts)), header-bytes (messageOf published q .id) (messageOf published q .arg))
+message-long t q =
+    rw (
+      length-append (header (dialectOf t) (messageOf (dialectOf t) q)) (joined (messageOf (dialectOf t) q .parts)),
+      header-bytes (numberOf t (messageOf (dialectOf t) q .id)) (messageOf (dialectOf t) q .arg),
+    )
     (omega arith)
 
-parts-few : (q : Request) → length (partsOf q) ≤ 4
-parts-few Q.Stat = omega arith
-parts-few Q.Sta2 = omega arith
-parts-few Q.List = omega arith
-parts-few Q.Lis2 = omega arith
-parts-few Q.Recv = omega arith
-parts-few (Q.Rcv2 f) = omega arith
-parts-few (Q.Send m) = omega arith
-parts-few (Q.Snd2 m f) = omega arith
-parts-few Q.Data = omega arith
-parts-few (Q.Done t) = omega arith
-parts-few Q.Quit = omega arith
+-- a message has one id: under its number it is the message in the table
+pub bytes-own : (t : Ids) (q : Request) (part : List ℕ)
+    → bytesOfRequest (only (numberOf t (asked q))) (meant q part) ≡ bytesOfRequest (dialectOf t) (meant q part)
+unfolding bytesOfRequest messageOf
+bytes-own t Q.Stat part = refl
+bytes-own t Q.Sta2 part = refl
+bytes-own t Q.List part = refl
+bytes-own t Q.Lis2 part = refl
+bytes-own t Q.Recv part = refl
+bytes-own t (Q.Rcv2 f) part = refl
+bytes-own t (Q.Send m) part = refl
+bytes-own t (Q.Snd2 m f) part = refl
+bytes-own t Q.Data part = refl
+bytes-own t (Q.Done m) part = refl
+bytes-own t Q.Quit part = refl
+
+parts-few : (i : ℕ) (q : Request) → length (partsOf i q) ≤ 4
+parts-few i Q.Stat = omega arith
+parts-few i Q.Sta2 = omega arith
+parts-few i Q.List = omega arith
+parts-few i Q.Lis2 = omega arith
+parts-few i Q.Recv = omega arith
+parts-few i (Q.Rcv2 f) = omega arith
+parts-few i (Q.Send m) = omega arith
+parts-few i (Q.Snd2 m f) = omega arith
+parts-few i Q.Data = omega arith
+parts-few i (Q.Done t) = omega arith
+parts-few i Q.Quit = omega arith
 
 fewer : (t : Bool) (l : List Piece) → length (pick t (drop 1 l) l) ≤ length l
 fewer true l = omega (arith, length-drop 1 l)
 fewer false l = omega arith
 
 -- a piece that goes out is one of the first five
-pub piece-few : (q : Request) (n k : ℕ) → isEnd (pieceOf q n k) ≡ false → k < 5
+pub piece-few : (i : ℕ) (q : Request) (n k : ℕ) → isEnd (pieceOf i q n k) ≡ false → k < 5
 unfolding pieceOf pieceList
-piece-few q n k e = go (decLe 5 k)
+piece-few i q n k e = go (decLe 5 k)
   where
     go : Dec (5 ≤ k) → k < 5
     go (yes h) =
-        let l : length (pieceList q n) ≤ k = omega (arith, parts-few q, fewer (eqb n 0) (partsOf q)) in
-        absurd (true≢false (ap isEnd (sym (List·getD-eq-default (pieceList q n) End {n = k} l)) ∙ e))
+        let l : length (pieceList i q n) ≤ k = omega (arith, parts-few i q, fewer (eqb n 0) (partsOf i q)) in
+        absurd (true≢false (ap isEnd (sym (List·getD-eq-default (pieceList i q n) End {n = k} l)) ∙ e))
     go (no f) = lt-of-not-le f
 
 -- the k-th piece goes out
-pub piece-sent : (q : Request) (from n k : ℕ) {i s : Session} {p : Piece} {r : Stepped} → i ≡ s → p ≡ pieceOf q n k → r ≡ pieceSent i q from n k p
-    → r ≡ sendPiece s q from n k
-piece-sent q from n k {i} {s} {p} e f h = h ∙ ap (λ (z : Session). pieceSent z q from n k p) e ∙ ap (λ (z : Piece). pieceSent s q from n k z) f
+pub piece-sent : (q : Request) (from n k : ℕ) {i s : Session} {j : ℕ} {p : Piece} {r : Stepped} → i ≡ s → j ≡ idFor s q → p ≡ pieceOf j q n k
+    → r ≡ pieceSent i q from n k p → r ≡ sendPiece s q from n k
+piece-sent q from n k {i} {s} {j} {p} e own f h =
+    h ∙ ap (λ (z : Session). pieceSent z q from n k p) e
+    ∙ ap (λ (z : Piece). pieceSent s q from n k z) (f ∙ ap (λ (y : ℕ). pieceOf y q n k) own)
 
 -- ---- a message goes out: whole, or in pieces
 
 module _ (s : Session) (rx : List ℕ) (q : Request) (from : ℕ) (part b : List ℕ) (c : RecvBuf) (e : (b, c) ≡ compacted rx (s .buf)) where
   abbrev m : List ℕ
-  m = bytesOfRequest published (meant q part)
+  m = bytesOfRequest (dialectIn s) (meant q part)
 
   abbrev wholly : List ℕ × RecvBuf → Half
   wholly p = half (stepped (at s (p .1) (Writing q from 0)) (WriteRx (p .1 .tail) (length m))) (put (p .0) (p .1 .tail) m)
@@ -101,7 +123,10 @@ module _ (s : Session) (rx : List ℕ) (q : Request) (from : ℕ) (part b : List
   unfolding messageOut
   cases = ap (λ (p : List ℕ × RecvBuf). pick (leb (p .1 .tail + length m) (length (p .0))) (wholly p) (first p)) e
 
-  module _ (x : List ℕ) (n : ℕ) (f : (x, n) ≡ placed b (c .tail) m) where
+  module _ (i : ℕ) (own : i ≡ idFor s q) (x : List ℕ) (n : ℕ) (g : (x, n) ≡ placed b (c .tail) (bytesOfRequest (only i) (meant q part))) where
+    f : (x, n) ≡ placed b (c .tail) m
+    f = g ∙ ap (λ (j : ℕ). placed b (c .tail) (bytesOfRequest (only j) (meant q part))) own ∙ ap (placed b (c .tail)) (bytes-own (s .ids) q part)
+
     bytes : x ≡ put b (c .tail) m
     bytes = ap (λ (p : List ℕ × ℕ). p .0) f
 
@@ -119,7 +144,7 @@ module _ (s : Session) (rx : List ℕ) (q : Request) (from : ℕ) (part b : List
     pieces-out z = go (decLe (c .tail + length m) (length b))
       where
         go : Dec (c .tail + length m ≤ length b) → half (sendPiece (at s c Idle) q from (length part) 0) x ≡ messageOut s rx q from part
-        go (yes h) = absurd (omega (arith, z, count (length m) (putLength-in b (c .tail) m h), message-long (meant q part)))
+        go (yes h) = absurd (omega (arith, z, count (length m) (putLength-in b (c .tail) m h), message-long (s .ids) (meant q part)))
         go (no g) = let h = lt-of-not-le g in rw (bytes, put-out b (c .tail) m h) (simp (lt-leb _ _ h) at cases)
 
 -- ---- a message, or a piece of it, was accepted
@@ -129,14 +154,17 @@ module _ (s : St) (q : Request) (from k : ℕ) (lent : List ℕ) where
   unfolding wroteOn
   wrote-whole e = simp (eq-eqb _ _ e)
 
-  module _ (n : k ≡ 0 → ⊥) (part : List ℕ) (e : part ≡ carried q from lent) (p : Piece) (f : p ≡ pieceOf q (length part) k) where
-    last : isEnd p ≡ isEnd (pieceOf q (length (carried q from lent)) k)
-    last = rw (f, e)
+  module _ (n : k ≡ 0 → ⊥) (part : List ℕ) (e : part ≡ carried q from lent) (i : ℕ) (own : i ≡ idFor (s .ses) q) (p : Piece) (g : p ≡ pieceOf i q (length part) k) where
+    is : p ≡ pieceOf (idFor (s .ses) q) q (length part) k
+    is = g ∙ ap (λ (j : ℕ). pieceOf j q (length part) k) own
+
+    last : isEnd p ≡ isEnd (pieceOf (idFor (s .ses) q) q (length (carried q from lent)) k)
+    last = rw (is, e)
 
     pub wrote-last : isEnd p ≡ true → resumed s q from lent ≡ wroteOn s q from k lent
     unfolding wroteOn
-    wrote-last g = simp (ne-eqb _ _ n, sym last ∙ g)
+    wrote-last h = simp (ne-eqb _ _ n, sym last ∙ h)
 
     pub wrote-next : isEnd p ≡ false → out (pieceSent (s .ses) q from (length part) k p) (s .rx) (s .msg) ≡ wroteOn s q from k lent
     unfolding wroteOn
-    wrote-next g = simp (ne-eqb _ _ n, sym last ∙ g) (rw (f, e))
+    wrote-next h = simp (ne-eqb _ _ n, sym last ∙ h) (rw (is, e))

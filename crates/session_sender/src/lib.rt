@@ -6,10 +6,11 @@ ghost use lib.ListN.{length};
 ghost use Rattle.session.specs.Calls.{guarded};
 ghost use Rattle.session.specs.State.{st, out, half, Fits};
 ghost use Rattle.session.specs.Steps.{readOn};
-ghost use Rattle.session.specs.Sends.{tidied, isEnd, pieceReply, sendPiece, messageOut, sent, resumed, wroteOn};
+ghost use Rattle.session.specs.Sends.{tidied, isEnd, idFor, pieceReply, sendPiece, messageOut, sent, resumed, wroteOn};
 ghost use Rattle.session_sender.specs.Pieces.{pieceSent, dataOn, closing};
 use request::Request;
 use request_message::compose_at;
+use request_message::request_id;
 use request_piece::Piece;
 use request_piece::piece_at;
 use session::Answer;
@@ -23,6 +24,13 @@ use session::Want;
 use session_messages::carried;
 use session_pump::read_on;
 use session_pump::tidy;
+
+// The number of a request's id, in the session's table.
+fn id_for(s: Session, q: Request) -> u32
+    ensures { λ r. ⌜ r ≡ idFor s q ⌝ }
+{
+    s.ids.number(request_id(q))
+}
 
 fn piece_reply(from: usize, n: usize, p: Piece) -> Reply
     ensures { λ r. ⌜ r ≡ pieceReply from n p ⌝ }
@@ -78,10 +86,11 @@ fn message_out(s: Session, rx: &mut [u8], q: Request, from: usize, part: &[u8]) 
     let buf = s.buf;
     let c = buf.compact(rx);
     let tail = c.tail;
-    let n = compose_at(rx, tail, q, part);
+    let id = id_for(s, q);
+    let n = compose_at(rx, tail, id, q, part);
     if n == 0 {
         let idle = s.at(c, Pending::Idle);
-        let p = piece_at(q, part, 0);
+        let p = piece_at(id, q, part, 0);
         return send_piece(idle, q, from, part.len(), 0, p);
     }
     let session = s.at(
@@ -102,7 +111,8 @@ fn message_out(s: Session, rx: &mut [u8], q: Request, from: usize, part: &[u8]) 
 fn send_header(s: Session, q: Request) -> Stepped
     ensures { λ r. ⌜ r ≡ sendPiece s q 0 0 0 ⌝ }
 {
-    let p = piece_at(q, b"", 0);
+    let id = id_for(s, q);
+    let p = piece_at(id, q, b"", 0);
     send_piece(s, q, 0, 0, 0, p)
 }
 
@@ -208,7 +218,8 @@ pub fn wrote(
     }
     let part = carried(q, from, lent);
     let n = part.len();
-    let p = piece_at(q, part, k);
+    let id = id_for(s, q);
+    let p = piece_at(id, q, part, k);
     if is_end(p) {
         return resume(s, rx, msg, q, from, lent);
     }

@@ -4,7 +4,7 @@ use crate::call::{Answer, Call, What, Why};
 use crate::error::Error;
 use crate::hex::{hex, spaced};
 use crate::intended::{aside, PATH_MOST};
-use crate::ours::{self, Step};
+use crate::ours::{self, opened, Step};
 use crate::theirs::{self, run};
 use crate::trials::{list, seen};
 use crate::wire::{Fault, Wire};
@@ -33,11 +33,11 @@ fn say(what: &str, ours: String, theirs: String, as_stated: bool) -> bool {
 
 fn small_buffers() -> bool {
     let mut rec = [0; raw::RECORD];
-    let told = (raw::open(&mut rec, b"", 7, 7), raw::open(&mut rec, b"", 8, 7), raw::open(&mut rec, b"", 8, 8));
+    let told = (opened(&mut rec, b"", 7, 7), opened(&mut rec, b"", 8, 7), opened(&mut rec, b"", 8, 8));
     let empty = list("", 7, b"", vec![]);
-    let opened = compare(&empty, &mut Tally::default());
-    let theirs = if opened.is_ok() { "panics on 7; has no message buffer".to_string() } else { format!("{opened:?}") };
-    say("opening on 7 bytes; on 8 with a message buffer of 7; on 8 and 8", format!("{told:?}"), theirs, told == (1, 2, 0) && opened.is_ok())
+    let same = compare(&empty, &mut Tally::default());
+    let theirs = if same.is_ok() { "panics on 7; has no message buffer".to_string() } else { format!("{same:?}") };
+    say("opening on 7 bytes; on 8 with a message buffer of 7; on 8 and 8", format!("{told:?}"), theirs, told == (1, 2, 0) && same.is_ok())
 }
 
 // a call that only this library refuses, by this number; 000 writes as `intended` says

@@ -1,13 +1,18 @@
-//! Our session on a scripted channel, through the library's five functions.
+//! Our session on a scripted channel, through the library's functions.
 use crate::wire::{Fault, Wire};
 use std::ops::Range;
-use yuglasno::raw;
+use yuglasno::{raw, Settings};
 
 /// The steps by their numbers at the boundary.
 #[derive(Clone, Copy, Debug, PartialEq, Eq)]
 #[repr(u32)]
 pub enum Step {
     Stat = 1, StatV2, List, ListV2, Recv, RecvV2, Send, SendV2, Data, SendDone, Quit, Entry, EntryV2, RecvNext,
+}
+
+/// Opens a session under the published ids: 000 has no others.
+pub fn opened(rec: &mut [u8], banner: &[u8], rx: usize, msg: usize) -> u32 {
+    raw::open(rec, Settings::published().as_bytes(), banner, rx, msg)
 }
 
 /// A session's memory and its channel.
@@ -26,7 +31,7 @@ impl<W: Wire> Host<W> {
     /// Opens a session; the message buffer is as long as the receive buffer.
     pub fn open(banner: &[u8], rx: Vec<u8>, wire: W) -> Result<Self, u32> {
         let mut host = Host { rec: [0; raw::RECORD], msg: vec![0xEE; rx.len()], rx, out: [0; raw::REPLY], wire, single: false };
-        match raw::open(&mut host.rec, banner, host.rx.len(), host.msg.len()) {
+        match opened(&mut host.rec, banner, host.rx.len(), host.msg.len()) {
             0 => Ok(host),
             number => Err(number),
         }

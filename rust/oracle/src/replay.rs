@@ -1,5 +1,5 @@
 //! Replays a stored sample of 000's answers (record.rs says its form) on this library. Needs no source of 000.
-use yuglasno::raw;
+use yuglasno::{raw, Settings};
 
 /// A record's bytes, read from the front.
 struct Fields<'a>(&'a [u8]);
@@ -106,7 +106,7 @@ impl Replay {
                 let (capacity, banner, fill) = (f.n4() as usize, f.bytes(), f.n1());
                 (self.rec, self.out) = (vec![0; raw::RECORD], vec![0; raw::REPLY]);
                 (self.rx, self.msg) = (vec![fill; capacity], vec![fill; capacity]);
-                raw::open(&mut self.rec, &banner, capacity, capacity) == 0
+                raw::open(&mut self.rec, Settings::published().as_bytes(), &banner, capacity, capacity) == 0
             }
             2 => {
                 let (number, a, b) = (f.n1() as u32, f.n4(), f.n4());

@@ -8,8 +8,10 @@ use std::{fmt, io};
 /// Why a call did not go through. The text begins with [`Error::number`]; [`MEANINGS`](crate::MEANINGS)
 /// has them all, docs/ANSWERS.md what to do about each.
 ///
-/// 1 to 11 are the caller's: session and buffers are as before. 12 and 13 are the link's, 14 to 17 the panel's.
-/// Where several apply, the first of 1, 2, then 3, 6, 4, 5, 8, 7, 9, 10 is answered; of a report 3, 6, 5, 11.
+/// 1 to 11 are the caller's: session and buffers are as before. 12 and 13 are the link's, 14 to 17 the panel's. 22 and 23 are those
+/// of a table of ids: the old one stays.
+/// Where several apply, the first of 1, 2, then 3, 6, 4, 5, 8, 7, 9, 10 is answered; of a report 3, 6, 5, 11. Of a table it is 22,
+/// then 23, behind 1 to 3.
 /// An error borrows nothing: the text of a FAIL is copied out of the message buffer, so `?` hands it on to any caller.
 ///
 /// ```
@@ -62,6 +64,11 @@ pub enum Error {
     Errno(u32),
     /// 17: a reply that the receive buffer can't hold.
     TooLarge,
+    /// 22: a file, or the settings that a session is opened with, is no table of ids. The text says what is seen to be wrong; it
+    /// is this crate's, and the number the library's.
+    BadIds(Box<str>),
+    /// 23: two ids of the table are equal. The text says which.
+    EqualIds(Box<str>),
     /// Another number.
     Other(u32),
 }
@@ -87,6 +94,8 @@ impl Error {
             Self::Unexpected(_) => 15,
             Self::Errno(_) => 16,
             Self::TooLarge => 17,
+            Self::BadIds(_) => 22,
+            Self::EqualIds(_) => 23,
             Self::Other(number) => *number,
         }
     }
@@ -107,6 +116,15 @@ impl Error {
             12 => Error::Closed,
             17 => Error::TooLarge,
             _ => Error::Other(number),
+        }
+    }
+
+    /// The error of a table of ids, or of an opening with it. `seen` is what a person may look for.
+    pub(crate) fn of_ids(number: u32, seen: String) -> Error {
+        match number {
+            22 => Error::BadIds(seen.into()),
+            23 => Error::EqualIds(seen.into()),
+            _ => Error::plain(number),
         }
     }
 
@@ -145,6 +163,8 @@ impl fmt::Display for Error {
             Self::Unexpected(id) => write!(f, "the panel sent an unexpected id: {}", Shown(id)),
             Self::Errno(errno) => write!(f, "the panel reports errno {errno}{}", meaning(*errno)),
             Self::TooLarge => f.write_str("the reply is too large for the receive buffer"),
+            Self::BadIds(seen) => write!(f, "not a table of ids{}", behind(seen)),
+            Self::EqualIds(seen) => write!(f, "two ids of the table are equal{}", behind(seen)),
             Self::Other(_) => f.write_str("not a number that this program knows"),
         }
     }
@@ -164,6 +184,14 @@ impl std::error::Error for Error {
             _ => None,
         }
     }
+}
+
+/// What is seen behind the words of an answer.
+fn behind(seen: &str) -> String {
+    if seen.is_empty() {
+        return String::new();
+    }
+    format!(": {seen}")
 }
 
 /// The panel's errnos that a stat commonly meets, by Linux's numbers.

@@ -17,6 +17,8 @@
 //! session.quit(&mut link).unwrap();
 //! ```
 //!
+//! The ids of the messages are the published ones; [`Settings`] have others from a file, and [`Session::open_with`] takes them.
+//!
 //! What a call comes to has a number: see [`Error`]. A chunk and a name are parts of the receive buffer, lent until the
 //! session's next call; the session allocates nothing but the copy of a FAIL's text that its error keeps.
 //!
@@ -29,12 +31,14 @@ mod answer;
 mod call;
 mod error;
 mod feature;
+mod ids;
 mod link;
 mod meanings;
 mod numbers;
 mod reply;
 mod runs;
 mod session;
+mod settings;
 mod shown;
 mod transfers;
 
@@ -50,10 +54,12 @@ pub use answer::{Answer, Details, Entry, EntryV2, Stat, StatV2};
 pub use call::{Call, Report};
 pub use error::Error;
 pub use feature::Feature;
+pub use ids::{Ids, PUBLISHED_IDS};
 pub use link::{code_of, Fault, Link, Pair};
 pub use meanings::{meaning, MEANINGS};
 pub use numbers::{FileMode, SyncFlags};
 pub use session::{Session, Step};
+pub use settings::{Settings, IDS_MOST};
 pub use shown::Shown;
 pub use transfers::Failure;
 

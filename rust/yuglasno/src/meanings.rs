@@ -1,12 +1,13 @@
 //! The meanings of the answers' numbers, in a line each: one table, for whoever shows it.
 
-/// Every number that an answer has, with its meaning: 0 to 17 of a session, 18 of the reader of requests.
+/// Every number that an answer has, with its meaning: 0 to 17 of a session, 18 of the reader of
+/// requests, 22 and 23 of a table of ids.
 ///
 /// ```
 /// let (number, text) = yuglasno::MEANINGS[12];
 /// assert_eq!((number, text), (12, "the channel is closed"));
 /// ```
-pub const MEANINGS: [(u32, &str); 19] = [
+pub const MEANINGS: [(u32, &str); 21] = [
     (0, "done"),
     (1, "the receive buffer is under 8 bytes"),
     (2, "the message buffer is shorter than the receive buffer"),
@@ -26,6 +27,8 @@ pub const MEANINGS: [(u32, &str); 19] = [
     (16, "the panel could not look at the file; its errno comes along (2: no such file or folder)"),
     (17, "a reply is larger than the receive buffer"),
     (18, "the bytes are no request of a host"),
+    (22, "a file, or the settings of an opening, is no table of ids; the old table stays"),
+    (23, "two ids of the table are equal; the old table stays"),
 ];
 
 /// The meaning of an answer's number; `None` for a number that no answer has.

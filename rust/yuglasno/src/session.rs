@@ -4,6 +4,7 @@ use crate::call::{Call, Report};
 use crate::error::Error;
 use crate::raw::{self, RECORD, REPLY};
 use crate::reply::{heard, part, Ask, Reply};
+use crate::settings::Settings;
 use std::{fmt, io};
 
 /// A session, over a receive buffer `R` and a message buffer `M` that it owns (`Vec<u8>`, `[u8; N]`) or borrows
@@ -34,8 +35,8 @@ pub enum Step<'a> {
 }
 
 impl<R: AsMut<[u8]>, M: AsMut<[u8]>> Session<R, M> {
-    /// Opens a session for a panel with this banner, of which only `features=..` counts. The channel is the caller's to
-    /// open. 1 or 2 for buffers that are too short.
+    /// Opens a session for a panel with this banner, of which only `features=..` counts, under the published ids. The channel
+    /// is the caller's to open. 1 or 2 for buffers that are too short.
     ///
     /// ```
     /// use yuglasno::Session;
@@ -43,11 +44,17 @@ impl<R: AsMut<[u8]>, M: AsMut<[u8]>> Session<R, M> {
     /// assert!(Session::open(b"features=stat_v2", &mut borrowed[..], [0; 4096]).is_ok());
     /// assert_eq!(Session::open(b"", [0; 7], [0; 7]).unwrap_err().number(), 1);
     /// ```
-    pub fn open(banner: &[u8], mut rx: R, mut msg: M) -> Result<Self, Error> {
+    pub fn open(banner: &[u8], rx: R, msg: M) -> Result<Self, Error> {
+        Self::open_with(&Settings::published(), banner, rx, msg)
+    }
+
+    /// The same with other settings than the published ones, which the session keeps as they are now. Behind 1 and 2, 22 or 23
+    /// where their ids are no table.
+    pub fn open_with(settings: &Settings, banner: &[u8], mut rx: R, mut msg: M) -> Result<Self, Error> {
         let mut record = [0; RECORD];
-        match raw::open(&mut record, banner, rx.as_mut().len(), msg.as_mut().len()) {
+        match raw::open(&mut record, settings.as_bytes(), banner, rx.as_mut().len(), msg.as_mut().len()) {
             0 => Ok(Self { record, reply: [0; REPLY], asked: None, rx, msg }),
-            number => Err(Error::plain(number)),
+            number => Err(settings.refused(number)),
         }
     }
 

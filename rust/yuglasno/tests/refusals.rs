@@ -1,7 +1,9 @@
 //! The answers 1 to 11: nothing is written, and the session goes on as if they had not been asked.
 mod common;
 use common::*;
-use yuglasno::{raw, Answer, Call, Error, Fault, Feature, FileMode, Link, Report, Session, Step, SyncFlags, PATH_MOST};
+use yuglasno::{
+    raw, Answer, Call, Error, Fault, Feature, FileMode, Link, Report, Session, Settings, Step, SyncFlags, PATH_MOST,
+};
 
 fn number(step: Step) -> u32 {
     match step {
@@ -184,7 +186,7 @@ fn a_longer_path_that_is_pending() {
     let (mut rec, mut rx, mut msg, mut out) = ([0; raw::RECORD], [0; 16], [0; 16], [0; raw::REPLY]);
     const LONG: usize = 70_000;
     let path = vec![b'p'; LONG];
-    assert_eq!(raw::open(&mut rec, b"", rx.len(), msg.len()), 0);
+    assert_eq!(raw::open(&mut rec, Settings::published().as_bytes(), b"", rx.len(), msg.len()), 0);
     let told = raw::start(&mut rec, &mut rx, &mut msg, &path[..PATH_MOST], 1, 0, 0, &mut out);
     assert_eq!(told, WRITE_BYTES, "the header of a message in pieces");
     // as an older library, with a higher limit, left it

@@ -4,8 +4,7 @@ use Prim.Native.Nat.{ℕ}
 use native.Mathlib.Omega.{arith}
 use borrow.Author.Needs.{needs}
 use lib.ListN.{length}
-use Rattle.protocol.proofs.Ids.{published-sound}
-use Rattle.format_id.specs.Ids.{idOf}
+use Rattle.protocol.proofs.Bytes.{length-bytesOf}
 use Rattle.request_message.proofs.Laws.{header-bytes}
 use Rattle.request_piece.specs.Pieces.{byValue}
 use Rattle.request_piece.specs.declared.Piece.{Piece}
@@ -28,10 +27,10 @@ piece-len-spec =
     (λ c. search needs)
     (λ c. search needs)
     (λ c. search needs)
-    (λ c. (long (c .enum-told .given .1) (sym (header-bytes (idOf (c .enum-told .given .0 .0)) (c .enum-told .given .0 .1 .0))), omega arith))
+    (λ c. (long (c .enum-told .given .1) (sym (header-bytes (c .enum-told .given .0 .0) (c .enum-told .given .0 .1 .0))), omega arith))
     (λ c. search needs)
     (λ c. search needs)
     (λ c. (long (c .before .before .p .given .1) (c .digits .ensures .0), c .digits .ensures .1))
-    (λ c. (long (c .enum-told4 .given .1) (sym (published-sound .four (idOf (c .enum-told4 .given .0 .0)))), omega arith))
+    (λ c. (long (c .enum-told4 .given .1) (sym (length-bytesOf 4 (c .enum-told4 .given .0 .0))), omega arith))
     (λ c. search needs)
     (λ c. search needs))

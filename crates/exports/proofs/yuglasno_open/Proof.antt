@@ -1,26 +1,32 @@
 -- `exports::yuglasno_open` meets its contract. Assumes nothing.
-use mathlib.Core.Path.{_∙_}
 use native.Mathlib.Omega.{arith}
 use borrow.Author.Needs.{needs}
 use denote.Ref.{now}
-use Rattle.exports.proofs.Opening.{open-in, open-refused, open-other}
+use Rattle.exports.proofs.Opening.{open-refused, open-other, open-none, open-in}
 use Rattle.exports.proofs.yuglasno_open.Statement.{statement}
 use Rattle.exports.proofs.yuglasno_open.Tie as tie
 
-opens : tie.Need-returns
-opens c =
-    let a = c .before .before .before .before .before .before .before .before .before .before .before .args in
-    open-in (now (a .rec)) (now (a .banner)) (a .rx) (a .msg) _ _ (c .before .before .before .before .before .before .before .before .«open» .ensures) (c .before .before .before .before .before .before .opened2 .given .1) (c .before .before .before .before .if1 .taken) _ (c .before .before .store .ensures)
+returns : tie.Need-returns
+returns c =
+    let a = c .before .before .before .before .before .args in
+    open-refused (now (a .rec)) (now (a .settings)) (now (a .banner)) (a .rx) (a .msg) _ (c .before .open-refusal .ensures) (omega arith)
 
-refuses : tie.Need-returns-2
-refuses c =
+returns-2 : tie.Need-returns-2
+returns-2 c =
     let a = c .before .before .before .before .before .before .args in
-    open-refused (now (a .rec)) (now (a .banner)) (a .rx) (a .msg) _ _ (c .before .before .before .«open» .ensures) (c .before .opened .given .1)
+    open-other (now (a .rec)) (now (a .settings)) (now (a .banner)) (a .rx) (a .msg) _ (c .before .before .open-refusal .ensures) (omega arith) (c .if2 .taken)
 
-other : tie.Need-returns-3
-other c =
-    let a = c .before .before .before .before .before .before .before .args in
-    open-other (now (a .rec)) (now (a .banner)) (a .rx) (a .msg) _ _ (c .before .before .before .before .«open» .ensures) (c .before .before .opened2 .given .1) (c .if1 .left)
+returns-3 : tie.Need-returns-3
+returns-3 c =
+    let a = c .before .before .before .before .before .before .before .before .before .before .args in
+    open-none (now (a .rec)) (now (a .settings)) (now (a .banner)) (a .rx) (a .msg) _ (c .before .before .before .before .before .before .open-refusal .ensures) (omega arith) (c .before .before .before .before .if2 .left)
+    _ (c .before .before .before .table-in .ensures) _ (c .before .lent .given .1)
+
+returns-4 : tie.Need-returns-4
+returns-4 c =
+    let a = c .before .before .before .before .before .before .before .before .before .before .before .before .before .before .before .args in
+    open-in (now (a .rec)) (now (a .settings)) (now (a .banner)) (a .rx) (a .msg) _ (c .before .before .before .before .before .before .before .before .before .before .before .open-refusal .ensures) (omega arith) (c .before .before .before .before .before .before .before .before .before .if2 .left)
+    _ (c .before .before .before .before .before .before .before .before .table-in .ensures) _ (c .before .before .before .before .before .before .lent2 .given .1) _ (c .before .before .before .before .fresh .ensures) _ (c .before .before .store .ensures)
 
 pub yuglasno-open-spec : {M : Type 1} → statement M
 yuglasno-open-spec =
@@ -28,10 +34,14 @@ yuglasno-open-spec =
     (tie.spec
     (λ c κs. search needs)
     (λ c. search needs)
+    returns
+    returns-2
+    (λ c κs. search needs)
+    (λ c. search needs)
     (λ c. search needs)
     (λ c. search needs)
     (λ c κs. search needs)
+    (λ c κs. search needs)
+    returns-3
     (λ c. search needs)
-    opens
-    refuses
-    other)
+    returns-4)

@@ -12,7 +12,7 @@ use lib.ListN.{length, take, drop}
 use Rattle.protocol.specs.Bytes.{pick}
 use Rattle.protocol.specs.Records.{argAt}
 use Rattle.boundary.specs.Told.{replyBytes}
-use Rattle.fast_replies.specs.Direct.{metBy, cameIn}
+use Rattle.fast_replies.specs.Direct.{dialectHeld, metBy, cameIn}
 use Rattle.fast_replies.proofs.Entries.{held-part}
 use Rattle.fast_replies.proofs.Taken.{done-out, done-in}
 use Rattle.record.specs.Record.{size, words}
@@ -25,22 +25,36 @@ use Rattle.fast_pull.proofs.await_body.Statement.{statement}
 use Rattle.fast_pull.proofs.await_body.Tie as tie
 
 -- where tail comes to
-end : (c : tie.Else1) → (metBy (now (c .before .before .before .before .before .before .args .rec)) (now (c .before .before .before .before .before .before .args .rx)) (c .before .before .before .before .before .before .args .count) ≡ true) × (c .before .met .result ≡ numberIn (now (c .before .before .before .before .before .before .args .rec)) 3 + c .before .before .before .before .before .before .args .count)
+end : (c : tie.Else1)
+    → let a = c .before .before .before .before .before .before .args in
+    (metBy (now (a .rec)) (now (a .rx)) (a .count) ≡ true) × (c .before .met .result ≡ numberIn (now (a .rec)) 3 + a .count)
 end c = let a = c .before .before .before .before .before .before .args in met-at (now (a .rec)) (now (a .rx)) (a .count) _ (c .before .met .ensures) (omega arith)
 
 -- the held bytes, with those that came
-held : (c : tie.After-number) → take (c .before .before .before .before .met .result - c .number .result) (drop (c .number .result) (now (c .before .before .before .before .before .before .before .before .before .args .rx))) ≡ cameIn (now (c .before .before .before .before .before .before .before .before .before .args .rec)) (now (c .before .before .before .before .before .before .before .before .before .args .rx)) (c .before .before .before .before .before .before .before .before .before .args .count)
+held : (c : tie.After-number)
+    → let a = c .before .before .before .before .before .before .before .before .before .args in
+    take (c .before .before .before .before .met .result - c .number .result) (drop (c .number .result) (now (a .rx))) ≡ cameIn (now (a .rec)) (now (a .rx)) (a .count)
 held c =
-    let a = c .before .before .before .before .before .before .before .before .before .args in
+    let s = c .before .before .before .before .before .before .before .before .before in
+    let a = s .args in
     let e = end (c .before .before .before) .1 in
-    held-part (now (a .rx)) (numberIn (now (a .rec)) 2) (numberIn (now (a .rec)) 3 + a .count) (omega (arith, c .before .before .before .before .before .before .before .before .before .pre .1)) (omega (arith, e)) _ _ (c .number .ensures) e
+    held-part (now (a .rx)) (numberIn (now (a .rec)) 2) (numberIn (now (a .rec)) 3 + a .count) (omega (arith, s .pre .1)) (omega (arith, e)) _ _ (c .number .ensures) e
 
-read : (c : tie.After-short-len) → c .short-len .result ≡ shortLength (cameIn (now (c .before .before .before .before .before .before .before .before .before .before .before .args .rec)) (now (c .before .before .before .before .before .before .before .before .before .before .before .args .rx)) (c .before .before .before .before .before .before .before .before .before .before .before .args .count)) (length (now (c .before .before .before .before .before .before .before .before .before .before .before .args .rx)))
-read c = c .short-len .ensures ∙ ap (λ (x : List ℕ). shortLength x (length (now (c .before .before .before .before .before .before .before .before .before .before .before .args .rx)))) (held (c .before .before))
+read : (c : tie.After-short-len)
+    → let a = c .before .before .before .before .before .before .before .before .before .before .before .before .args in
+    c .short-len .result ≡ shortLength (dialectHeld (now (a .rec))) (cameIn (now (a .rec)) (now (a .rx)) (a .count)) (length (now (a .rx)))
+read c =
+    let a = c .before .before .before .before .before .before .before .before .before .before .before .before .args in
+    c .short-len .ensures ∙ ap (λ (x : List ℕ). shortLength (dialectHeld (now (a .rec))) x (length (now (a .rx)))) (held (c .before .before .before))
 
 -- the chunk that they begin
-begins : (c : tie.Else3) → (bodyShort (cameIn (now (c .before .before .before .before .before .before .before .before .before .before .before .before .args .rec)) (now (c .before .before .before .before .before .before .before .before .before .before .before .before .args .rx)) (c .before .before .before .before .before .before .before .before .before .before .before .before .args .count)) (length (now (c .before .before .before .before .before .before .before .before .before .before .before .before .args .rx))) ≡ true) × (c .before .short-len .result ≡ 8 + argAt (cameIn (now (c .before .before .before .before .before .before .before .before .before .before .before .before .args .rec)) (now (c .before .before .before .before .before .before .before .before .before .before .before .before .args .rx)) (c .before .before .before .before .before .before .before .before .before .before .before .before .args .count)))
-begins c = let a = c .before .before .before .before .before .before .before .before .before .before .before .before .args in short-at (cameIn (now (a .rec)) (now (a .rx)) (a .count)) (length (now (a .rx))) _ (read (c .before)) (omega arith)
+begins : (c : tie.Else3)
+    → let a = c .before .before .before .before .before .before .before .before .before .before .before .before .before .args in
+    let x = cameIn (now (a .rec)) (now (a .rx)) (a .count) in
+    (bodyShort (dialectHeld (now (a .rec))) x (length (now (a .rx))) ≡ true) × (c .before .short-len .result ≡ 8 + argAt x)
+begins c =
+    let a = c .before .before .before .before .before .before .before .before .before .before .before .before .before .args in
+    short-at (dialectHeld (now (a .rec))) (cameIn (now (a .rec)) (now (a .rx)) (a .count)) (length (now (a .rx))) _ (read (c .before)) (omega arith)
 
 few : tie.Need-returns
 few c =
@@ -49,28 +63,30 @@ few c =
     (rw (unmet (now (a .rec)) (now (a .rx)) (a .count) _ (c .before .met .ensures) (c .if1 .taken)))
 
 order : tie.Need-sub-short-len
-order c = omega (arith, end (c .before .before .before) .1, c .before .before .before .before .before .before .before .before .before .pre .1, c .number .ensures)
+order c = omega (arith, end (c .before .before .before .before) .1, c .before .before .before .before .before .before .before .before .before .before .pre .1, c .before .number .ensures)
 
 start : tie.Need-part-short-len-start
-start c = omega (arith, end (c .before .before .before) .1, c .before .before .before .before .before .before .before .before .before .pre .1, c .number .ensures)
+start c = omega (arith, end (c .before .before .before .before) .1, c .before .before .before .before .before .before .before .before .before .before .pre .1, c .before .number .ensures)
 
 none : tie.Need-returns-2
 none c =
-    let a = c .before .before .before .before .before .before .before .before .before .before .before .before .args in
-    let e = end (c .before .before .before .before .before .before) in
-    done-out (headerCame (now (a .rec)) (now (a .rx)) (a .count)) (now (a .rec)) _ _ _ _ _ (now (a .out))
+    let a = c .before .before .before .before .before .before .before .before .before .before .before .before .before .args in
+    let rec = now (a .rec) in
+    let e = end (c .before .before .before .before .before .before .before) in
+    done-out (headerCame rec (now (a .rx)) (a .count)) rec _ _ _ _ _ (now (a .out))
     (rw (
       e .0,
-      lt-ltb (numberIn (now (a .rec)) 3 + a .count) (length (now (a .rx))) (omega (arith, e .1)),
-      not-short (cameIn (now (a .rec)) (now (a .rx)) (a .count)) (length (now (a .rx))) _ (read (c .before)) (c .if3 .taken),
+      lt-ltb (numberIn rec 3 + a .count) (length (now (a .rx))) (omega (arith, e .1)),
+      not-short (dialectHeld rec) (cameIn rec (now (a .rx)) (a .count)) (length (now (a .rx))) _ (read (c .before)) (c .if3 .taken),
     ))
 
 until : tie.Need-add-until
 until c =
-    let a = c .before .before .before .before .before .before .before .before .before .before .before .before .before .before .before .before .args in
+    let s = c .before .before .before .before .before .before .before .before .before .before .before .before .before .before .before .before .before in
+    let a = s .args in
     let (b, n) = begins (c .before .before .before .before) in
-    let w = short-of (cameIn (now (a .rec)) (now (a .rx)) (a .count)) (length (now (a .rx))) b in
-    omega (arith, w .fits, n, end (c .before .before .before .before .before .before .before .before .before .before) .1, c .before .before .before .before .before .before .before .before .before .before .before .before .before .before .before .before .pre .1, c .before .before .before .before .before .before .before .number .ensures)
+    let w = short-of (dialectHeld (now (a .rec))) (cameIn (now (a .rec)) (now (a .rx)) (a .count)) (length (now (a .rx))) b in
+    omega (arith, w .fits, n, end (c .before .before .before .before .before .before .before .before .before .before .before) .1, s .pre .1, c .before .before .before .before .before .before .before .before .number .ensures)
 
 least : tie.Need-sub-n
 least c = omega (arith, begins (c .before .before .before .before) .1)
@@ -78,16 +94,16 @@ least c = omega (arith, begins (c .before .before .before .before) .1)
 asks : tie.Need-returns-3
 unfolding replyBytes
 asks c =
-    let a = c .before .before .before .before .before .before .before .before .before .before .before .before .before .before .before .before .before .before .before .before .before .before .before .before .args in
+    let a = c .before .before .before .before .before .before .before .before .before .before .before .before .before .before .before .before .before .before .before .before .before .before .before .before .before .args in
     let rec = now (a .rec) in
     let x = cameIn rec (now (a .rx)) (a .count) in
-    let e = end (c .before .before .before .before .before .before .before .before .before .before .before .before .before .before .before .before .before .before) in
+    let e = end (c .before .before .before .before .before .before .before .before .before .before .before .before .before .before .before .before .before .before .before) in
     let b = begins (c .before .before .before .before .before .before .before .before .before .before .before .before) in
-    let h = c .before .before .before .before .before .before .before .before .before .before .before .before .before .before .before .number .ensures in
+    let h = c .before .before .before .before .before .before .before .before .before .before .before .before .before .before .before .before .number .ensures in
     done-in (headerCame rec (now (a .rx)) (a .count)) rec (numberIn rec 2) (numberIn rec 3 + a .count) (numberIn rec 4) (stepOf 28 (numberIn rec 8) (numberIn rec 2 + (8 + argAt x)) 0 0 (argAt x))
-    (R.Read (numberIn rec 3 + a .count) (length (now (a .rx)) - (numberIn rec 3 + a .count))) (now (a .out)) _ _ (c .before .before .before .before .before .before .before .before .before .before .before .before .before .before .before .number .result) (c .before .before .before .before .before .before .before .before .before .before .before .before .before .before .before .before .before .before .before .met .result) (c .before .before .before .before .before .before .before .before .before .before .number2 .result)
-    (rw (e .0, lt-ltb (numberIn rec 3 + a .count) (length (now (a .rx))) (omega (arith, e .1)), b .0)) (c .before .before .before .before .before .before .before .before .before .before .before .before .before .before .before .before .before .before .before .before .before .before .before .before .pre .0) h (e .1) (c .before .before .before .before .before .before .before .before .before .before .number2 .ensures)
-    (c .before .before .store-step .ensures ∙ ap (λ (s : List ℕ). pick (eqb (length rec) size) (words (movedNumbers rec (c .before .before .before .before .before .before .before .before .before .before .before .before .before .before .before .number .result) (c .before .before .before .before .before .before .before .before .before .before .before .before .before .before .before .before .before .before .before .met .result) (c .before .before .before .before .before .before .before .before .before .before .number2 .result) s)) rec)
+    (R.Read (numberIn rec 3 + a .count) (length (now (a .rx)) - (numberIn rec 3 + a .count))) (now (a .out)) _ _ (c .before .before .before .before .before .before .before .before .before .before .before .before .before .before .before .before .number .result) (c .before .before .before .before .before .before .before .before .before .before .before .before .before .before .before .before .before .before .before .before .met .result) (c .before .before .before .before .before .before .before .before .before .before .number2 .result)
+    (rw (e .0, lt-ltb (numberIn rec 3 + a .count) (length (now (a .rx))) (omega (arith, e .1)), b .0)) (c .before .before .before .before .before .before .before .before .before .before .before .before .before .before .before .before .before .before .before .before .before .before .before .before .before .pre .0) h (e .1) (c .before .before .before .before .before .before .before .before .before .before .number2 .ensures)
+    (c .before .before .store-step .ensures ∙ ap (λ (s : List ℕ). pick (eqb (length rec) size) (words (movedNumbers rec (c .before .before .before .before .before .before .before .before .before .before .before .before .before .before .before .before .number .result) (c .before .before .before .before .before .before .before .before .before .before .before .before .before .before .before .before .before .before .before .before .met .result) (c .before .before .before .before .before .before .before .before .before .before .number2 .result) s)) rec)
     (awaited _ _ _ _ _ _ (c .before .before .before .before .before .before .before .before .number3 .ensures) (omega (arith, b .1, h)) (omega (arith, b .1)))) (c .before .before .before .before .before .before .put-two .ensures ∙ rw (e .1))
 
 full : tie.Need-returns-4

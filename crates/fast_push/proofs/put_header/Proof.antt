@@ -11,7 +11,7 @@ use Rattle.request_piece.specs.Pieces.{headerOf}
 use Rattle.request.specs.declared.Request.the-variants as Q
 use Rattle.session.specs.declared.Reply.the-variants as R
 use Rattle.fast_record.specs.Standing.{numberIn}
-use Rattle.fast_push.specs.Pushing.{nextIn, nextPart, pushStep, hasRoom, headerGoes}
+use Rattle.fast_push.specs.Pushing.{nextIn, nextPart, pushStep, hasRoom, dataId, headerGoes}
 use Rattle.fast_push.proofs.Pushes.{at-most, read-at}
 use Rattle.fast_push.proofs.put_header.Statement.{statement}
 use Rattle.fast_push.proofs.put_header.Tie as tie
@@ -44,17 +44,17 @@ whole c =
 goes : tie.Need-returns-3
 unfolding replyBytes
 goes c =
-    let a = c .before .before .before .before .before .before .before .before .before .before .before .before .before .before .before .before .before .before .before .before .before .before .args in
+    let a = c .before .before .before .before .before .before .before .before .before .before .before .before .before .before .before .before .before .before .before .before .before .before .before .before .args in
     let rec = now (a .rec) in
-    let n = ap length (read-at (now (a .lent)) (c .before .before .before .before .before .before .before .before .before .before .before .before .carried .ensures) (c .before .before .before .before .before .before .before .before .before .before .before .before .before .next .ensures)) in
+    let n = ap length (read-at (now (a .lent)) (c .before .before .before .before .before .before .before .before .before .before .before .before .before .before .carried .ensures) (c .before .before .before .before .before .before .before .before .before .before .before .before .before .before .before .next .ensures)) in
     done-in (headerGoes rec (now (a .rx)) (now (a .lent))) rec (numberIn rec 2) (numberIn rec 3) (numberIn rec 4) (pushStep (nextIn rec (now (a .lent))) 1)
-    (R.WriteBytes (headerOf Q.Data (length (nextPart rec (now (a .lent)))))) (now (a .out)) _ _ _ _ _
+    (R.WriteBytes (headerOf (dataId rec) Q.Data (length (nextPart rec (now (a .lent)))))) (now (a .out)) _ _ _ _ _
     (rw (
       eq-eqb (numberIn rec 2) 0 (omega arith),
-      lt-ltb 0 (length (nextPart rec (now (a .lent)))) (omega (arith, n, c .before .before .before .before .before .before .before .before .before .before .before .if2 .left)),
-      ap (λ k. hasRoom rec (length (now (a .rx))) k) (sym n) ∙ sym (c .before .before .before .before .before .before .before .before .before .has-room .ensures) ∙ c .before .before .before .before .before .before .before .before .if3 .left,
+      lt-ltb 0 (length (nextPart rec (now (a .lent)))) (omega (arith, n, c .before .before .before .before .before .before .before .before .before .before .before .before .before .if2 .left)),
+      ap (λ k. hasRoom rec (length (now (a .rx))) k) (sym n) ∙ sym (c .before .before .before .before .before .before .before .before .before .before .before .has-room .ensures) ∙ c .before .before .before .before .before .before .before .before .before .before .if3 .left,
     ))
-    (c .before .before .before .before .before .before .before .before .before .before .before .before .before .before .before .before .before .before .before .before .before .before .pre .0) refl refl refl (c .before .before .store-push .ensures ∙ rw (c .before .before .before .before .before .before .before .before .before .before .before .before .before .next .ensures)) (c .before .before .before .before .before .before .put-piece .ensures ∙ rw n)
+    (c .before .before .before .before .before .before .before .before .before .before .before .before .before .before .before .before .before .before .before .before .before .before .before .before .pre .0) refl refl refl (c .before .before .store-push .ensures ∙ rw (c .before .before .before .before .before .before .before .before .before .before .before .before .before .before .before .next .ensures)) (c .before .before .before .before .before .before .put-piece .ensures ∙ rw (c .before .before .before .before .before .before .before .before .id-in .ensures, n))
 
 moved : tie.Need-returns-4
 moved c =
@@ -75,6 +75,7 @@ put-header-spec =
     (λ c. search needs)
     whole
     (λ c. search needs)
+    (λ c κs. search needs)
     (λ c κs. search needs)
     (λ c κs. search needs)
     (λ c. search needs)

@@ -8,15 +8,11 @@ use borrow.Author.Tests.{eq-eqb, ne-eqb, lt-ltb, le-ltb}
 use denote.Ref.{now}
 use lib.ListN.{length}
 use Rattle.protocol.specs.Bytes.{put}
-use Rattle.protocol.specs.Ids.{published}
-use Rattle.protocol.specs.Messages.{bytesOfRequest}
 use Rattle.boundary.specs.Told.{replyBytes}
 use Rattle.fast_replies.proofs.Taken.{written-out, written-in}
-use Rattle.request.specs.Meaning.{meant}
-use Rattle.request.specs.declared.Request.the-variants as Q
 use Rattle.session.specs.declared.Reply.the-variants as R
 use Rattle.fast_record.specs.Standing.{numberIn}
-use Rattle.fast_push.specs.Pushing.{nextIn, nextPart, pushStep, hasRoom, wholeGoes}
+use Rattle.fast_push.specs.Pushing.{nextIn, nextPart, pushStep, hasRoom, wholeGoes, nextBytes}
 use Rattle.fast_push.proofs.Pushes.{at-most, read-at, composed-whole}
 use Rattle.fast_push.proofs.put_whole.Statement.{statement}
 use Rattle.fast_push.proofs.put_whole.Tie as tie
@@ -37,24 +33,24 @@ parts c κs =
 goes : tie.Need-returns-2
 unfolding replyBytes
 goes c =
-    let a = c .before .before .before .before .before .before .before .before .before .before .before .before .before .before .before .before .before .before .before .before .before .before .before .before .before .before .before .before .args in
+    let a = c .before .before .before .before .before .before .before .before .before .before .before .before .before .before .before .before .before .before .before .before .before .before .before .before .before .before .before .before .before .before .args in
     let rec = now (a .rec) in
     let rx = now (a .rx) in
     let lent = now (a .lent) in
     let part = nextPart rec lent in
-    let p = read-at lent (c .before .before .before .before .before .before .before .before .before .before .before .before .before .before .before .before .before .before .carried .ensures) (c .before .before .before .before .before .before .before .before .before .before .before .before .before .before .before .before .before .before .before .next .ensures) in
+    let p = read-at lent (c .before .before .before .before .before .before .before .before .before .before .before .before .before .before .before .before .before .before .before .before .carried .ensures) (c .before .before .before .before .before .before .before .before .before .before .before .before .before .before .before .before .before .before .before .before .before .next .ensures) in
     let n = ap length p in
-    let t = c .before .before .before .before .before .before .before .before .before .before .before .before .number2 .ensures in
-    let f = ap (λ k. hasRoom rec (length rx) k) (sym n) ∙ sym (c .before .before .before .before .before .before .before .before .before .before .before .before .before .before .before .has-room .ensures) ∙ c .before .before .before .before .before .before .before .before .before .before .before .before .before .before .if3 .taken in
-    let w = composed-whole rec rx lent (c .before .before .before .before .before .before .before .before .before .before .compose-at .ensures) t p (c .before .before .before .before .before .before .before .before .before .before .before .before .before .before .before .before .before .before .before .before .before .before .before .before .before .before .before .before .pre .1) f in
+    let t = c .before .before .before .before .before .before .before .before .before .before .before .before .before .before .number2 .ensures in
+    let f = ap (λ k. hasRoom rec (length rx) k) (sym n) ∙ sym (c .before .before .before .before .before .before .before .before .before .before .before .before .before .before .before .before .before .has-room .ensures) ∙ c .before .before .before .before .before .before .before .before .before .before .before .before .before .before .before .before .if3 .taken in
+    let w = composed-whole rec rx lent (c .before .before .before .before .before .before .before .before .before .before .compose-at .ensures) (c .before .before .before .before .before .before .before .before .before .before .before .before .id-in .ensures) t p (c .before .before .before .before .before .before .before .before .before .before .before .before .before .before .before .before .before .before .before .before .before .before .before .before .before .before .before .before .before .before .pre .1) f in
     written-in (wholeGoes rec rx lent) rec (numberIn rec 2) (numberIn rec 3) (numberIn rec 4) (pushStep (nextIn rec lent) 0)
-    (R.WriteRx (numberIn rec 3) (8 + length part)) (now (a .out)) rx (put rx (numberIn rec 3) (bytesOfRequest published (meant Q.Data part))) _ _ _ _ _ _
+    (R.WriteRx (numberIn rec 3) (8 + length part)) (now (a .out)) rx (put rx (numberIn rec 3) (nextBytes rec lent)) _ _ _ _ _ _
     (rw (
       eq-eqb (numberIn rec 2) 0 (omega arith),
-      lt-ltb 0 (length part) (omega (arith, n, c .before .before .before .before .before .before .before .before .before .before .before .before .before .before .before .before .before .if2 .left)),
+      lt-ltb 0 (length part) (omega (arith, n, c .before .before .before .before .before .before .before .before .before .before .before .before .before .before .before .before .before .before .before .if2 .left)),
       f,
     ))
-    (c .before .before .before .before .before .before .before .before .before .before .before .before .before .before .before .before .before .before .before .before .before .before .before .before .before .before .before .before .pre .0) refl refl refl (c .before .before .store-push .ensures ∙ rw (c .before .before .before .before .before .before .before .before .before .before .before .before .before .before .before .before .before .before .before .next .ensures)) (ap (λ (q : List ℕ × ℕ). q .0) w)
+    (c .before .before .before .before .before .before .before .before .before .before .before .before .before .before .before .before .before .before .before .before .before .before .before .before .before .before .before .before .before .before .pre .0) refl refl refl (c .before .before .store-push .ensures ∙ rw (c .before .before .before .before .before .before .before .before .before .before .before .before .before .before .before .before .before .before .before .before .before .next .ensures)) (ap (λ (q : List ℕ × ℕ). q .0) w)
     (c .before .before .before .before .before .before .put-two .ensures ∙ rw (t, ap (λ (q : List ℕ × ℕ). q .1) w))
 
 apart : tie.Need-returns-3
@@ -86,6 +82,7 @@ put-whole-spec =
     (λ c. search needs)
     empty
     parts
+    (λ c κs. search needs)
     (λ c κs. search needs)
     (λ c κs. search needs)
     (λ c κs. search needs)

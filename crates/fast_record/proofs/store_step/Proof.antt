@@ -1,14 +1,14 @@
--- `fast_record::store_step` meets its contract: the numbers go in four by four, over the whole record. Assumes nothing.
+-- `fast_record::store_step` meets its contract: the numbers go in four by four, in front of the ids. Assumes nothing.
 use mathlib.Core.List.{List, [], _∷_, _++_}
-use mathlib.Core.Path.{_∙_}
+use mathlib.Core.Path.{refl, _∙_}
 use Prim.Native.Nat.{ℕ}
 use native.Mathlib.Omega.{arith}
 use borrow.Author.Needs.{needs}
 use borrow.Author.Tests.{eq-eqb, ne-eqb}
 use denote.Ref.{now}
-use Rattle.record.proofs.Words.{put-next, put-whole, length-words}
-use Rattle.record.specs.Record.{words}
-use Rattle.fast_record.specs.Standing.{numberIn, movedNumbers, stepOf}
+use Rattle.record.proofs.Words.{put-next}
+use Rattle.fast_record.specs.Standing.{numberIn}
+use Rattle.fast_record.proofs.Laws.{ids-stay}
 use Rattle.fast_record.proofs.store_step.Statement.{statement}
 use Rattle.fast_record.proofs.store_step.Tie as tie
 
@@ -31,7 +31,8 @@ within c =
     let sixteen = put-next b 0 96 (ones ++ twos ++ threes) fours twelve (c .before .before .before .before .before .before .before .before .before .before .put-four4 .ensures) (omega arith) (omega arith) in
     let twenty = put-next b 0 128 (ones ++ twos ++ threes ++ fours) zeros sixteen (c .before .before .before .before .before .before .put-four5 .ensures) (omega arith) (omega arith) in
     let all = put-next b 0 160 (ones ++ twos ++ threes ++ fours ++ zeros) zeros twenty (c .before .before .put-four6 .ensures) (omega arith) (omega arith) in
-    simp (eq-eqb _ _ l) (all ∙ put-whole b (words (movedNumbers b (a .head) (a .tail) (a .lent) (stepOf (a .state) (a .flag) (a .until) (a .from) (a .piece) (a .register)))) (omega arith))
+    let known = c .before .before .before .before .before .before .before .before .before .before .before .before .before .before .before .before .before .before .before .before .before .before .before .before .before .before .before .before .before .before .before .before .before .slice-known in
+    simp (eq-eqb _ _ l) (all ∙ ids-stay b (λ k. known .given k .fits) (ones ++ twos ++ threes ++ fours ++ zeros ++ zeros) refl l)
 
 pub store-step-spec : {M : Type 1} → statement M
 store-step-spec =

@@ -24,15 +24,15 @@ short c =
 written : tie.Need-returns-2
 unfolding replyBytes
 written c =
-    let a = c .before .before .before .before .before .before .before .before .before .before .before .before .before .before .before .before .before .before .before .before .before .args in
+    let a = c .before .before .before .before .before .before .before .before .before .before .before .before .before .before .before .before .before .before .before .before .before .before .args in
     let rec = now (a .rec) in
     let rx = now (a .rx) in
     let n = length (now (a .lent)) in
-    let h = c .before .before .before .before .before .before .before .before .before .before .before .before .before .before .before .number .ensures in
-    let t = c .before .before .before .before .before .before .before .before .before .before .before .before .before .number2 .ensures in
+    let h = c .before .before .before .before .before .before .before .before .before .before .before .before .before .before .before .before .number .ensures in
+    let t = c .before .before .before .before .before .before .before .before .before .before .before .before .before .before .number2 .ensures in
     written-in (askFits rec rx (now (a .lent))) rec 0 (heldCountIn rec) n (plainStep (a .call) 0) (R.WriteRx (heldCountIn rec) (8 + n)) (now (a .out)) rx
-    (askedIn rx (numberIn rec 2) (numberIn rec 3) (a .call) (now (a .lent))) _ _ _ _ _ _
-    (le-leb (8 + n) (length rx - heldCountIn rec) (omega arith)) (c .before .before .before .before .before .before .before .before .before .before .before .before .before .before .before .before .before .before .before .before .before .pre .0) refl (omega arith) refl
+    (askedIn rec rx (numberIn rec 2) (numberIn rec 3) (a .call) (now (a .lent))) _ _ _ _ _ _
+    (le-leb (8 + n) (length rx - heldCountIn rec) (omega arith)) (c .before .before .before .before .before .before .before .before .before .before .before .before .before .before .before .before .before .before .before .before .before .before .pre .0) refl (omega arith) refl
     (c .before .before .store-plain .ensures)
     (c .before .before .before .before .before .before .before .before .before .before .put-request .ensures ∙ rw (h, t))
     (c .before .before .before .before .before .before .put-two .ensures ∙ rw (h, t))

@@ -7,10 +7,10 @@ use Rattle.heard_requests.proofs.print_all.Statement.{statement}
 use Rattle.heard_requests.proofs.print_all.Tie as tie
 
 abbrev Inv-loop : tie.InvT-loop
-Inv-loop at unread done₀ done = done ≤ length unread
+Inv-loop ids at unread done₀ done = done ≤ length unread
 
 abbrev μ-loop : tie.MeasureT-loop
-μ-loop at unread done₀ done = length unread - done
+μ-loop ids at unread done₀ done = length unread - done
 
 pub print-all-spec : {M : Type 1} → statement M
 print-all-spec =

@@ -7,10 +7,10 @@ use Rattle.heard_requests.proofs.print_stream.Statement.{statement}
 use Rattle.heard_requests.proofs.print_stream.Tie as tie
 
 abbrev Inv-loop : tie.InvT-loop
-Inv-loop buffer₀ turns₀ s₀ buffer turns s = length buffer ≡ length buffer₀
+Inv-loop ids buffer₀ turns₀ s₀ buffer turns s = length buffer ≡ length buffer₀
 
 abbrev μ-loop : tie.MeasureT-loop
-μ-loop buffer₀ turns₀ s₀ buffer turns s = turns
+μ-loop ids buffer₀ turns₀ s₀ buffer turns s = turns
 
 pub print-stream-spec : {M : Type 1} → statement M
 print-stream-spec =

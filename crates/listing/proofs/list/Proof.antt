@@ -12,13 +12,13 @@ use Rattle.listing.proofs.list.Tie as tie
 
 walk-requires : tie.Need-walk-requires
 walk-requires c κs =
-    let s = c .before .before .before .before .before .before .before .before .before .before .before .before .before .before .before in
+    let s = c .before .before .before .before .before .before .before .before .before .before .before .before .before .before .before .before in
     let a = s .args in
     let p = s .pre in
     let l = laid-of headingRoom (now (a .out)) 0 heading (omega (arith, p)) (c .before .before .before .before .before .put-heading .ensures) in
     let h = heading-length in
     record {
-      fresh = session-is (length (now (a .rx))) (length (now (a .msg))) (p .least) (p .aside) (c .before .before .before .before .before .before .before .before .before .before .«open» .ensures) (c .before .before .before .before .before .before .before .before .opened .given .1);
+      fresh = session-is (length (now (a .rx))) (length (now (a .msg))) (p .least) (p .aside) _ (c .before .before .before .before .before .before .before .before .before .before .before .before .published .ensures) (c .before .before .before .before .before .before .before .before .before .before .«open» .ensures) (c .before .before .before .before .before .before .before .before .opened .given .1);
       least = p .least;
       aside = p .aside;
       within = p .within;
@@ -28,7 +28,7 @@ walk-requires c κs =
 returns : tie.Need-returns
 unfolding printed
 returns c =
-    let s = c .before .before .before .before .before .before .before .before .before .before .before .before .before .before .before .before .before .before .before .before .before .before in
+    let s = c .before .before .before .before .before .before .before .before .before .before .before .before .before .before .before .before .before .before .before .before .before .before .before in
     let a = s .args in
     let p = s .pre in
     let l = laid-of headingRoom (now (a .out)) 0 heading (omega (arith, p)) (c .before .before .before .before .before .before .before .before .before .before .before .before .put-heading .ensures) in
@@ -37,14 +37,15 @@ returns c =
 
 returns-2 : tie.Need-returns-2
 returns-2 c =
-    let s = c .before .before .before .before .before .before .before in
+    let s = c .before .before .before .before .before .before .before .before in
     let a = s .args in
-    absurd (not-refused (length (now (a .rx))) (length (now (a .msg))) (s .pre .least) (s .pre .aside) (c .before .before .«open» .ensures) (c .enum-told .given .1))
+    absurd (not-refused (length (now (a .rx))) (length (now (a .msg))) (s .pre .least) (s .pre .aside) _ (c .before .before .before .before .published .ensures) (c .before .before .«open» .ensures) (c .enum-told .given .1))
 
 pub list-spec : {M : Type 1} → statement M
 list-spec =
     tie.close
     (tie.spec
+    (λ c κs. search needs)
     (λ c. search needs)
     (λ c κs. search needs)
     (λ c. search needs)

@@ -5,7 +5,6 @@ use Prim.Native.Nat.{ℕ, _+_}
 use native.Mathlib.Omega.{arith}
 use borrow.Author.Needs.{needs}
 use lib.ListN.{length}
-use Rattle.protocol.specs.Ids.{letters, SEND}
 use Rattle.protocol.specs.Messages.{word, comma, joined}
 use Rattle.request_message.proofs.Laws.{go-on, stop, begun-whole, front-bytes}
 use Rattle.request_message.proofs.compose_digits.Statement.{statement}
@@ -21,8 +20,8 @@ returns c =
     let g = c .before .before .before .begin in
     let d = a .digits .now in
     let n : ℕ = length (a .path .now) + (1 + length d) in
-    let m : List ℕ = letters SEND ++ word n ++ a .path .now in
-    stop (a .out .now) m (1 + length d) (g .last .0) (g .result) (g .ensures .0) (comma ∷ d ∷ []) 0 (room d) (omega (arith, front-bytes SEND n (a .path .now))) (c .if1 .taken)
+    let m : List ℕ = word (a .id) ++ word n ++ a .path .now in
+    stop (a .out .now) m (1 + length d) (g .last .0) (g .result) (g .ensures .0) (comma ∷ d ∷ []) 0 (room d) (omega (arith, front-bytes (a .id) n (a .path .now))) (c .if1 .taken)
     ∙ begun-whole (a .out .now) _ _ (ap (λ l. m ++ (comma ++ l)) (append-nil d))
 
 returns-2 : tie.Need-returns-2
@@ -32,7 +31,7 @@ returns-2 c =
     let g = s .before .before .before .begin in
     let d = a .digits .now in
     let n : ℕ = length (a .path .now) + (1 + length d) in
-    let m : List ℕ = letters SEND ++ word n ++ a .path .now in
+    let m : List ℕ = word (a .id) ++ word n ++ a .path .now in
     let k : g .result + length (joined (comma ∷ d ∷ [])) ≡ g .result + (1 + length d) = omega (arith, room d) in
     cc (
     go-on (a .out .now) m (1 + length d) (g .last .0) (g .result) (g .ensures .0) (comma ∷ d ∷ []) 0 (room d) (s .if1 .left)

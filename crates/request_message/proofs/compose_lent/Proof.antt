@@ -3,9 +3,7 @@ use mathlib.Core.List.{_++_, append-nil}
 use mathlib.Core.Path.{sym, ap, _∙_}
 use borrow.Author.Needs.{needs}
 use lib.ListN.{length}
-use Rattle.protocol.specs.Ids.{letters}
 use Rattle.protocol.specs.Messages.{word}
-use Rattle.format_id.specs.Ids.{idOf}
 use Rattle.request_message.proofs.Laws.{begun-whole}
 use Rattle.request_message.proofs.compose_lent.Statement.{statement}
 use Rattle.request_message.proofs.compose_lent.Tie as tie
@@ -14,7 +12,7 @@ returns : tie.Need-returns
 returns c =
     let a = c .before .before .before .before .before .before .args in
     c .before .before .begin .ensures .0
-    ∙ begun-whole (a .out .now) _ _ (ap (λ l. letters (idOf (a .id)) ++ word (length (a .lent .now)) ++ l) (sym (append-nil (a .lent .now))))
+    ∙ begun-whole (a .out .now) _ _ (ap (λ l. word (a .id) ++ word (length (a .lent .now)) ++ l) (sym (append-nil (a .lent .now))))
 
 pub compose-lent-spec : {M : Type 1} → statement M
 compose-lent-spec = tie.close (tie.spec (λ c κs. search needs) (λ c. search needs) returns)

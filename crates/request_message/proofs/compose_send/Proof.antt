@@ -31,7 +31,7 @@ returns c =
     let f = c .before .before .before .before .before .before in
     let a = f .before .before .before .before .args in
     c .before .before .compose-digits .ensures
-    ∙ ap (placed (a .out .now) 0) (send-bytes (a .path .now) (a .mode .0) _ (formatted f .1 .1))
+    ∙ ap (placed (a .out .now) 0) (send-bytes (a .id) (a .path .now) (a .mode .0) _ (formatted f .1 .1))
 
 pub compose-send-spec : {M : Type 1} → statement M
 compose-send-spec =

@@ -3,14 +3,13 @@ use mathlib.Core.Path.{_≡_, refl, sym, ap, _∙_}
 use Prim.Native.Nat.{ℕ}
 use borrow.Author.Needs.{needs}
 use Rattle.request.specs.declared.Request.{Request}
-use Rattle.format_id.specs.declared.SyncId.{SyncId}
 use Rattle.request_piece.specs.Pieces.{headerOf}
 use Rattle.request_piece.specs.declared.Piece.the-variants.{Header}
 use Rattle.request_piece.proofs.header.Statement.{statement}
 use Rattle.request_piece.proofs.header.Tie as tie
 
-matched : (n : ℕ) {q r : Request} {i : SyncId} {a b : ℕ} → q ≡ r → a ≡ b → Header i b ≡ headerOf r n → Header i a ≡ headerOf q n
-matched n {i = i} e f h = ap (Header i) f ∙ h ∙ ap (λ q. headerOf q n) (sym e)
+matched : (n : ℕ) {q r : Request} {i a b : ℕ} → q ≡ r → a ≡ b → Header i b ≡ headerOf i r n → Header i a ≡ headerOf i q n
+matched n {i = i} e f h = ap (Header i) f ∙ h ∙ ap (λ q. headerOf i q n) (sym e)
 
 pub header-spec : {M : Type 1} → statement M
 header-spec =

@@ -10,20 +10,20 @@ use Rattle.request_piece.proofs.piece_at.Tie as tie
 returns : tie.Need-returns
 returns c =
     let a = c .before .before .before .args in
-    let e = c .header .ensures ∙ piece-header (a .q) (length (a .lent .now)) (a .k) (c .before .if1 .taken) in
-    (e, ap (shown (a .lent .now)) e ∙ piece-shown (a .q) (a .lent .now) (a .k))
+    let e = c .header .ensures ∙ piece-header (a .id) (a .q) (length (a .lent .now)) (a .k) (c .before .if1 .taken) in
+    (e, ap (shown (a .lent .now)) e ∙ piece-shown (a .id) (a .q) (a .lent .now) (a .k))
 
 returns-2 : tie.Need-returns-2
 returns-2 c =
     let a = c .before .before .before .before .args in
-    let e = c .part .ensures ∙ piece-empty (a .q) (length (a .lent .now)) (a .k) (c .before .before .if1 .left) (c .before .if2 .taken) in
-    (e, ap (shown (a .lent .now)) e ∙ piece-shown (a .q) (a .lent .now) (a .k))
+    let e = c .part .ensures ∙ piece-empty (a .id) (a .q) (length (a .lent .now)) (a .k) (c .before .before .if1 .left) (c .before .if2 .taken) in
+    (e, ap (shown (a .lent .now)) e ∙ piece-shown (a .id) (a .q) (a .lent .now) (a .k))
 
 returns-3 : tie.Need-returns-3
 returns-3 c =
     let a = c .before .before .before .before .args in
-    let e = c .part2 .ensures ∙ piece-part (a .q) (length (a .lent .now)) (a .k) (c .before .before .if1 .left) (c .before .if2 .left) in
-    (e, ap (shown (a .lent .now)) e ∙ piece-shown (a .q) (a .lent .now) (a .k))
+    let e = c .part2 .ensures ∙ piece-part (a .id) (a .q) (length (a .lent .now)) (a .k) (c .before .before .if1 .left) (c .before .if2 .left) in
+    (e, ap (shown (a .lent .now)) e ∙ piece-shown (a .id) (a .q) (a .lent .now) (a .k))
 
 pub piece-at-spec : {M : Type 1} → statement M
 piece-at-spec =

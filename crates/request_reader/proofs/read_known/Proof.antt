@@ -3,15 +3,12 @@ use Prim.Native.Nat.{ℕ}
 use mathlib.Core.List.{List}
 use mathlib.Core.Option.{some}
 use mathlib.Core.Path.{_≡_, refl, sym, ap, _∙_}
-use native.Mathlib.Omega.{arith}
 use borrow.Author.Needs.{needs}
 use Rattle.format_id.specs.Ids.{idOf}
-use Rattle.protocol.specs.Ids.{Id, STAT, STA2, LIST, LIS2, SEND, SND2, RECV, RCV2, DATA, DONE, OKAY, FAIL, DENT, DNT2, QUIT, published}
+use Rattle.protocol.specs.Ids.{Id, STAT, STA2, LIST, LIS2, SEND, SND2, RECV, RCV2, DATA, DONE, OKAY, FAIL, DENT, DNT2, QUIT}
 use Rattle.protocol.specs.Messages.{stat, sta2, list, lis2, recv}
-use Rattle.protocol.specs.Records.{idAt}
 use Rattle.protocol.specs.Requests.{Read, time, foreign, kindOf, argOk, following, bodyOf, onId}
-use Rattle.protocol.proofs.Ids.{named-sound}
-use Rattle.request_reader.specs.Meaning.{onArg}
+use Rattle.request_reader.specs.Meaning.{own, onArg}
 use Rattle.request_reader.proofs.Parts.{on-path}
 use Rattle.request_reader.proofs.Steps.{on-refused, on-whole, on-known}
 use Rattle.request_reader.proofs.read_known.Statement.{statement}
@@ -22,18 +19,8 @@ slice c = c .before .before .args .s .now
 
 -- in the arm of the id i, an answer as its kind has it is the answer
 arm : (c : tie.After-u32-at) (i : Id) (a : Read) → idOf (c .before .before .args .id) ≡ i → a ≡ onArg (kindOf i) (c .u32-at .result) (slice c)
-    → a ≡ onId published (slice c) (some (idOf (c .before .before .args .id)))
-arm c i a e f = rw e (f ∙ on-known (slice c) (c .u32-at .result) i (c .before .before .pre .0) (c .u32-at .ensures))
-
--- ... and the slice begins with its letters
-begins : (c : tie.After-u32-at) (i : Id) → idOf (c .before .before .args .id) ≡ i → idAt (slice c) ≡ published .bytes i
-begins c i e = sym (named-sound published (idAt (slice c)) i (c .before .before .pre .1 ∙ ap some e))
-
-read-rcv2-requires : tie.Need-read-rcv2-requires
-read-rcv2-requires c κs = (begins (c .before .before) RCV2 (ap idOf (c .enum-told6 .given .1)), search needs)
-
-read-snd2-requires : tie.Need-read-snd2-requires
-read-snd2-requires c κs = (begins (c .before .before) SND2 (ap idOf (c .enum-told8 .given .1)), search needs)
+    → a ≡ onId (own (slice c)) (slice c) (some (idOf (c .before .before .args .id)))
+arm c i a e f = rw e (f ∙ on-known (slice c) (c .u32-at .result) i (c .before .before .pre) (c .u32-at .ensures))
 
 returns : tie.Need-returns
 returns c =
@@ -76,7 +63,7 @@ returns-10 : tie.Need-returns-10
 unfolding argOk following bodyOf
 returns-10 c =
     let l = c .before .before in
-    arm l DONE _ (ap idOf (c .enum-told10 .given .1)) (sym (on-whole time (l .u32-at .result) (slice l) refl (l .before .before .pre .0)))
+    arm l DONE _ (ap idOf (c .enum-told10 .given .1)) (sym (on-whole time (l .u32-at .result) (slice l) refl (l .before .before .pre)))
 
 returns-11 : tie.Need-returns-11
 returns-11 c = arm (c .before .before .before) QUIT _ (ap idOf (c .before .enum-told11 .given .1)) (c .read-quit .ensures)
@@ -122,11 +109,11 @@ read-known-spec =
     (λ c. search needs)
     (λ c κs. search needs)
     (λ c. search needs)
-    read-rcv2-requires
+    (λ c κs. search needs)
     (λ c. search needs)
     (λ c κs. search needs)
     (λ c. search needs)
-    read-snd2-requires
+    (λ c κs. search needs)
     (λ c. search needs)
     (λ c κs. search needs)
     (λ c. search needs)

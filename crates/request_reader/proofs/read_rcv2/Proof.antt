@@ -9,7 +9,7 @@ returns c =
     let o = c .before .before .before .before in
     let f = c .before .before .u32-at in
     let part = c .before .words-part in
-    let law = on-flags (o .args .n) (f .result) (o .args .s .now) (o .pre .0) (f .ensures) in
+    let law = on-flags (o .args .n) (f .result) (o .args .s .now) (f .ensures) in
     rw (c .answer .ensures, told-staged (o .args .s .now) (part .result) _ (o .args .n) _, part .ensures, law)
 
 pub read-rcv2-spec : {M : Type 1} → statement M

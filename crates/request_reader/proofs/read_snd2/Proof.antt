@@ -10,7 +10,7 @@ returns c =
     let m = c .before .before .before .u32-at in
     let f = c .before .before .u32-at2 in
     let part = c .before .words-part in
-    let law = on-mode-flags (o .args .n) (m .result) (f .result) (o .args .s .now) (o .pre .0) (m .ensures) (f .ensures) in
+    let law = on-mode-flags (o .args .n) (m .result) (f .result) (o .args .s .now) (m .ensures) (f .ensures) in
     rw (c .answer .ensures, told-staged (o .args .s .now) (part .result) _ (o .args .n) _, part .ensures, law)
 
 pub read-snd2-spec : {M : Type 1} → statement M

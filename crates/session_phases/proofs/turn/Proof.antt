@@ -5,6 +5,7 @@ use native.Mathlib.Omega.{arith}
 use borrow.Author.Needs.{needs}
 use denote.Ref.{now}
 use lib.ListN.{length}
+use Rattle.ids.specs.Ids.{dialectOf}
 use Rattle.session.specs.Phases.{wants, turnAt}
 use Rattle.session.specs.declared.Phase.{Phase}
 use Rattle.session.specs.declared.Turn.{Turn}
@@ -16,9 +17,9 @@ module _ (c : tie.After-shared-slice-known) {p : Phase} (e : c .before .args .p 
   there : c .before .args .head + wants (c .before .args .capacity) p ≤ length (now (c .before .args .rx))
   there = subst (λ (q : Phase). c .before .args .head + wants (c .before .args .capacity) q ≤ length (now (c .before .args .rx))) e (c .before .pre)
 
-  by-phase : {r : Turn} → r ≡ turnAt (c .before .args .capacity) p (now (c .before .args .rx)) (c .before .args .head)
-      → r ≡ turnAt (c .before .args .capacity) (c .before .args .p) (now (c .before .args .rx)) (c .before .args .head)
-  by-phase = case (λ (q : Phase). turnAt (c .before .args .capacity) q (now (c .before .args .rx)) (c .before .args .head)) e
+  by-phase : {r : Turn} → r ≡ turnAt (dialectOf (c .before .args .ids)) (c .before .args .capacity) p (now (c .before .args .rx)) (c .before .args .head)
+      → r ≡ turnAt (dialectOf (c .before .args .ids)) (c .before .args .capacity) (c .before .args .p) (now (c .before .args .rx)) (c .before .args .head)
+  by-phase = case (λ (q : Phase). turnAt (dialectOf (c .before .args .ids)) (c .before .args .capacity) q (now (c .before .args .rx)) (c .before .args .head)) e
 
 pub turn-spec : {M : Type 1} → statement M
 unfolding wants turnAt

@@ -12,9 +12,9 @@ turn-at-spec =
     (tie.spec
     (λ c κs. search needs)
     (λ c κs. search needs)
-    (λ c. c .stops .ensures ∙ sym (turn-out _ _ _ _ (omega (arith, c .before .before .wants .ensures .0))))
+    (λ c. c .stops .ensures ∙ sym (turn-out _ _ _ _ _ (omega (arith, c .before .before .wants .ensures .0))))
     (λ c. search needs)
     (λ c κs. search needs)
-    (λ c. c .stops2 .ensures ∙ sym (turn-out _ _ _ _ (omega (arith, c .before .before .before .wants .ensures .0))))
+    (λ c. c .stops2 .ensures ∙ sym (turn-out _ _ _ _ _ (omega (arith, c .before .before .before .wants .ensures .0))))
     (λ c κs. omega (arith, c .before .before .wants .ensures .0))
-    (λ c. c .turn .ensures ∙ sym (turn-in _ _ _ _ (omega (arith, c .before .before .before .wants .ensures .0)))))
+    (λ c. c .turn .ensures ∙ sym (turn-in _ _ _ _ _ (omega (arith, c .before .before .before .wants .ensures .0)))))

@@ -42,13 +42,13 @@ module _ (c : tie.After-turn-at) where
   taken : c .turn-at .result ≡ turnOf (from c) (c .before .before .before .before .before .before .before .before .before .args .p)
   taken =
       let g : Good (from c) = c .before .before .before .before .before .before .before .before .before .pre in
-      c .turn-at .ensures ∙ turn-in _ _ _ _ (omega (arith, held, g .order, g .inside, g .rx))
+      c .turn-at .ensures ∙ turn-in _ _ _ _ _ (omega (arith, held, g .order, g .inside, g .rx))
 
   drops : c .turn-at .result .drops ≤ wanted c
-  drops = rw taken (turn-drops _ _ _ _)
+  drops = rw taken (turn-drops _ _ _ _ _)
 
   keeps : c .turn-at .result .keeps ≤ wanted c
-  keeps = rw taken (turn-keeps _ _ _ _)
+  keeps = rw taken (turn-keeps _ _ _ _ _)
 
   -- the cursor moves as the turn says: what it drops is held
   moves : (b : RecvBuf) (s : Session) → b ≡ RB.taken (from c .ses .buf) (c .turn-at .result .drops) → s ≡ at (from c .ses) b Idle → s ≡ turned (from c) (c .turn-at .result) .ses

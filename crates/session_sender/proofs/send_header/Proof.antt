@@ -7,7 +7,8 @@ pub send-header-spec : {M : Type 1} → statement M
 send-header-spec =
     tie.close
     (tie.spec
+    (λ c κs. search needs)
     (λ c. search needs)
     (λ c κs. search needs)
     (λ c κs. search needs)
-    (λ c. cc (c .send-piece .ensures, c .before .piece-at .ensures .0)))
+    (λ c. cc (c .send-piece .ensures, c .before .piece-at .ensures .0, c .before .before .before .id-for .ensures)))

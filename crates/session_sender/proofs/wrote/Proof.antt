@@ -27,26 +27,28 @@ returns-2 c =
     ∙ sym (guarded-in s _ (misfit-fits _ _ _ (sym (c .before .before .before .before .before .before .before .before .before .misfit .ensures) ∙ c .before .before .before .before .before .before .before .before .if1 .left)))
 
 resume-requires-2 : tie.Need-resume-requires-2
-resume-requires-2 c κs = misfit-fits _ _ _ (sym (c .before .before .before .before .before .before .before .before .misfit .ensures) ∙ c .before .before .before .before .before .before .before .if1 .left)
+resume-requires-2 c κs = misfit-fits _ _ _ (sym (c .before .before .before .before .before .before .before .before .before .misfit .ensures) ∙ c .before .before .before .before .before .before .before .before .if1 .left)
 
 returns-3 : tie.Need-returns-3
 returns-3 c =
-    let a = c .before .before .before .before .before .before .before .before .before .before .before .before .before .before .before .before .before .args in
+    let a = c .before .before .before .before .before .before .before .before .before .before .before .before .before .before .before .before .before .before .args in
     let s = st (a .s) (now (a .rx)) (now (a .msg)) in
     c .before .before .before .before .resume2 .ensures
-    ∙ wrote-last s (a .q) (a .from) (a .k) (now (a .lent)) (c .before .before .before .before .before .before .before .before .before .before .before .if2 .left) _ (c .before .before .before .before .before .before .before .before .before .before .carried .ensures) _ (c .before .before .before .before .before .before .before .before .before .piece-at .ensures .0) (sym (c .before .before .before .before .before .before .before .before .is-end .ensures) ∙ c .before .before .before .before .before .before .before .if3 .taken)
-    ∙ sym (guarded-in s _ (misfit-fits _ _ _ (sym (c .before .before .before .before .before .before .before .before .before .before .before .before .before .misfit .ensures) ∙ c .before .before .before .before .before .before .before .before .before .before .before .before .if1 .left)))
+    ∙ wrote-last s (a .q) (a .from) (a .k) (now (a .lent)) (c .before .before .before .before .before .before .before .before .before .before .before .before .if2 .left) _ (c .before .before .before .before .before .before .before .before .before .before .before .carried .ensures)
+    _ (c .before .before .before .before .before .before .before .before .before .before .id-for .ensures) _ (c .before .before .before .before .before .before .before .before .before .piece-at .ensures .0) (sym (c .before .before .before .before .before .before .before .before .is-end .ensures) ∙ c .before .before .before .before .before .before .before .if3 .taken)
+    ∙ sym (guarded-in s _ (misfit-fits _ _ _ (sym (c .before .before .before .before .before .before .before .before .before .before .before .before .before .before .misfit .ensures) ∙ c .before .before .before .before .before .before .before .before .before .before .before .before .before .if1 .left)))
 
 send-piece-requires : tie.Need-send-piece-requires
-send-piece-requires c κs = piece-few _ _ _ (ap isEnd (sym (c .before .before .piece-at .ensures .0)) ∙ sym (c .before .is-end .ensures) ∙ c .if3 .left)
+send-piece-requires c κs = piece-few _ _ _ _ (ap isEnd (sym (c .before .before .piece-at .ensures .0)) ∙ sym (c .before .is-end .ensures) ∙ c .if3 .left)
 
 returns-4 : tie.Need-returns-4
 returns-4 c =
-    let a = c .before .before .before .before .before .before .before .before .before .before .before .args in
+    let a = c .before .before .before .before .before .before .before .before .before .before .before .before .args in
     let s = st (a .s) (now (a .rx)) (now (a .msg)) in
     out-eq _ _ (c .send-piece .ensures)
-    ∙ wrote-next s (a .q) (a .from) (a .k) (now (a .lent)) (c .before .before .before .before .before .if2 .left) _ (c .before .before .before .before .carried .ensures) _ (c .before .before .before .piece-at .ensures .0) (sym (c .before .before .is-end .ensures) ∙ c .before .if3 .left)
-    ∙ sym (guarded-in s _ (misfit-fits _ _ _ (sym (c .before .before .before .before .before .before .before .misfit .ensures) ∙ c .before .before .before .before .before .before .if1 .left)))
+    ∙ wrote-next s (a .q) (a .from) (a .k) (now (a .lent)) (c .before .before .before .before .before .before .if2 .left) _ (c .before .before .before .before .before .carried .ensures)
+    _ (c .before .before .before .before .id-for .ensures) _ (c .before .before .before .piece-at .ensures .0) (sym (c .before .before .is-end .ensures) ∙ c .before .if3 .left)
+    ∙ sym (guarded-in s _ (misfit-fits _ _ _ (sym (c .before .before .before .before .before .before .before .before .misfit .ensures) ∙ c .before .before .before .before .before .before .before .if1 .left)))
 
 pub wrote-spec : {M : Type 1} → statement M
 wrote-spec =
@@ -59,6 +61,7 @@ wrote-spec =
     (λ c. search needs)
     (λ c. search needs)
     returns-2
+    (λ c κs. search needs)
     (λ c κs. search needs)
     (λ c κs. search needs)
     (λ c κs. search needs)

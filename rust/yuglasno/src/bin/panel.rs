@@ -1,21 +1,27 @@
 //! A test panel over standard input and output, or a Unix socket.
 #![forbid(unsafe_code)]
+use std::fmt::Display;
+use std::fs::File;
 use std::io::{self, Write};
 use std::os::unix::net::UnixListener;
 use std::path::PathBuf;
 use std::process::ExitCode;
 use yuglasno::panel::Panel;
+use yuglasno::{Failure, Settings};
 
 const USAGE: &str = "\
-usage: panel [--folder DIR] [--cut N] [--unix PATH [--once]]
+usage: panel [--folder DIR] [--ids FILE] [--cut N] [--unix PATH [--once]]
 
 Speaks the panel's side of sync, v1 and v2, over standard input and output or to the hosts that connect to the socket,
 one after the other. Serves a few jobs under /jobs, or a folder; --cut N sends replies in pieces of 1 to N bytes.
+With --ids it hears and says the ids of a file, as `transfer --ids` reads it, and no others.
 ";
 
 #[derive(Default)]
 struct Plan {
     folder: Option<PathBuf>,
+    ids: Option<PathBuf>,
+    settings: Settings,
     cut: Option<usize>,
     socket: Option<PathBuf>,
     once: bool,
@@ -28,6 +34,7 @@ impl Plan {
         while let Some(word) = words.next() {
             match word.to_str()? {
                 "--folder" => plan.folder = Some(words.next()?.into()),
+                "--ids" => plan.ids = Some(words.next()?.into()),
                 "--cut" => plan.cut = Some(words.next()?.to_str()?.parse().ok()?),
                 "--unix" => plan.socket = Some(words.next()?.into()),
                 "--once" => plan.once = true,
@@ -42,15 +49,27 @@ impl Plan {
             Some(folder) => Panel::with_folder(folder),
             None => Panel::with_jobs(),
         };
-        panel.cut(self.cut.unwrap_or(usize::MAX))
+        panel.with_ids(self.settings.ids()).cut(self.cut.unwrap_or(usize::MAX))
+    }
+
+    /// Takes over the ids of the file that is named.
+    fn load(&mut self) -> Result<(), Failure> {
+        match &self.ids {
+            Some(file) => self.settings.read_ids(&mut File::open(file).map_err(Failure::File)?),
+            None => Ok(()),
+        }
     }
 }
 
 fn main() -> ExitCode {
-    let Some(plan) = Plan::parsed() else {
+    let Some(mut plan) = Plan::parsed() else {
         let _ = io::stderr().write_all(USAGE.as_bytes());
         return ExitCode::from(64);
     };
+    if let Err(failure) = plan.load() {
+        failed(&format_args!("{failure} (the ids file)"));
+        return ExitCode::from(failure.number().map_or(66, |number| number as u8));
+    }
     match run(&plan) {
         Ok(()) => ExitCode::SUCCESS,
         Err(error) => {
@@ -61,8 +80,8 @@ fn main() -> ExitCode {
 }
 
 /// Says why; where that can't be written the exit status still does.
-fn failed(error: &io::Error) {
-    let _ = writeln!(io::stderr(), "panel: {error}");
+fn failed(why: &dyn Display) {
+    let _ = writeln!(io::stderr(), "panel: {why}");
 }
 
 fn run(plan: &Plan) -> io::Result<()> {

@@ -3,12 +3,15 @@
 mod files;
 mod folder;
 mod jobs;
+mod letters;
 mod replies;
 mod requests;
 
 use crate::answer::StatV2;
+use crate::ids::{Ids, PUBLISHED_IDS};
 use crate::numbers::FileMode;
 use files::Files;
+use letters::{Id, Letters};
 use requests::{first, Request, Version};
 use std::io::{self, ErrorKind, Read, Write};
 use std::path::PathBuf;
@@ -19,6 +22,7 @@ use std::path::PathBuf;
 /// As on AOSP's service a FAIL ends it, once a push under way is through.
 pub struct Panel {
     files: Box<dyn Files>,
+    letters: Letters,
     heard: Vec<u8>,
     replies: Vec<u8>,
     said: usize,
@@ -56,8 +60,14 @@ impl Panel {
     }
 
     fn with_files(files: Box<dyn Files>) -> Self {
-        let (heard, replies) = (Vec::new(), Vec::new());
-        Self { files, heard, replies, said: 0, push: Push::None, ended: false, cut: usize::MAX, turns: 0 }
+        let (letters, heard, replies) = (Letters(PUBLISHED_IDS), Vec::new(), Vec::new());
+        Self { files, letters, heard, replies, said: 0, push: Push::None, ended: false, cut: usize::MAX, turns: 0 }
+    }
+
+    /// The same panel, which hears and says these ids and no others.
+    pub fn with_ids(mut self, ids: Ids) -> Self {
+        self.letters = Letters(ids);
+        self
     }
 
     /// The same panel, whose replies come in odd pieces of one to `most` bytes.
@@ -99,7 +109,7 @@ impl Panel {
         self.heard.extend_from_slice(bytes);
         let mut at = 0;
         while !self.ended {
-            match first(&self.heard[at..]) {
+            match first(&self.letters, &self.heard[at..]) {
                 Ok(None) => break,
                 Ok(Some((request, length))) => {
                     at += length;
@@ -115,25 +125,25 @@ impl Panel {
     }
 
     fn fail(&mut self, text: &str) {
-        replies::fail(&mut self.replies, text);
+        replies::fail(&mut self.replies, &self.letters, text);
     }
 
     fn answer(&mut self, request: Request) {
         match request {
             Request::Stat(Version::V1, path) => {
-                replies::stat(&mut self.replies, &self.files.stat(&path).unwrap_or_default());
+                replies::stat(&mut self.replies, &self.letters, &self.files.stat(&path).unwrap_or_default());
             }
             Request::Stat(Version::V2, path) => {
-                replies::stat_v2(&mut self.replies, &files::or_errno(self.files.stat(&path)));
+                replies::stat_v2(&mut self.replies, &self.letters, &files::or_errno(self.files.stat(&path)));
             }
             Request::List(version, path) => {
                 for (name, stat) in self.dots(&path).into_iter().chain(self.files.list(&path)) {
-                    replies::entry(&mut self.replies, version, &name, &stat);
+                    replies::entry(&mut self.replies, &self.letters, version, &name, &stat);
                 }
-                replies::listing_end(&mut self.replies, version);
+                replies::listing_end(&mut self.replies, &self.letters, version);
             }
             Request::Recv(path) => match self.files.read(&path) {
-                Ok(data) => replies::data(&mut self.replies, &data),
+                Ok(data) => replies::data(&mut self.replies, &self.letters, &data),
                 Err(text) => {
                     self.fail(&text);
                     self.ended = true;
@@ -149,7 +159,7 @@ impl Panel {
             Request::Data(bytes) => match &mut self.push {
                 Push::Taking { data, .. } => data.extend_from_slice(&bytes),
                 Push::Failed => {}
-                Push::None => self.astray("DATA"),
+                Push::None => self.astray(Id::Data),
             },
             Request::Done(mtime) => self.finish(mtime),
             Request::Quit => self.ended = true,
@@ -168,7 +178,7 @@ impl Panel {
         match std::mem::replace(&mut self.push, Push::None) {
             Push::Taking { path, mode, keep, data } => {
                 match if keep { self.files.write(&path, mode, mtime, &data) } else { Ok(()) } {
-                    Ok(()) => replies::okay(&mut self.replies),
+                    Ok(()) => replies::okay(&mut self.replies, &self.letters),
                     Err(text) => {
                         self.fail(&text);
                         self.ended = true;
@@ -176,12 +186,12 @@ impl Panel {
                 }
             }
             Push::Failed => self.ended = true,
-            Push::None => self.astray("DONE"),
+            Push::None => self.astray(Id::Done),
         }
     }
 
-    fn astray(&mut self, id: &str) {
-        self.fail(&format!("{id} outside a push"));
+    fn astray(&mut self, id: Id) {
+        self.fail(&format!("{} outside a push", self.letters.of(id).escape_ascii()));
         self.ended = true;
     }
 }

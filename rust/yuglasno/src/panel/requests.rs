@@ -1,4 +1,5 @@
 //! The requests that a panel hears.
+use super::letters::{Id, Letters};
 use crate::numbers::{FileMode, SyncFlags};
 use crate::{DATA_MOST, PATH_MOST};
 
@@ -27,24 +28,24 @@ fn number(bytes: &[u8]) -> u32 {
 }
 
 /// The first request of the bytes and its length; none where it is not whole; or the text of a FAIL.
-pub(super) fn first(bytes: &[u8]) -> Result<Option<(Request, usize)>, String> {
+pub(super) fn first(letters: &Letters, bytes: &[u8]) -> Result<Option<(Request, usize)>, String> {
     if bytes.len() < 8 {
         return Ok(None);
     }
-    let (id, arg) = (&bytes[..4], number(&bytes[4..8]));
-    let (body, behind) = match id {
-        b"DONE" => return Ok(Some((Request::Done(arg), 8))),
-        b"QUIT" => return Ok(Some((Request::Quit, 8))),
-        b"DATA" | b"STAT" | b"STA2" | b"LIST" | b"LIS2" | b"RECV" | b"SEND" => (arg as usize, 0),
-        b"RCV2" => (arg as usize, 8),
-        b"SND2" => (arg as usize, 12),
-        _ => return Err(format!("unknown command {}", id.escape_ascii())),
+    let arg = number(&bytes[4..8]);
+    let Some(id) = letters.asked(&bytes[..4]) else {
+        return Err(format!("unknown command {}", bytes[..4].escape_ascii()));
     };
-    let (most, why) = match id {
-        b"DATA" => (DATA_MOST, "oversize data message"),
-        b"SEND" => (SEND_MOST, TOO_LONG),
-        _ => (PATH_MOST, TOO_LONG),
+    let (most, why, behind) = match id {
+        Id::Done => return Ok(Some((Request::Done(arg), 8))),
+        Id::Quit => return Ok(Some((Request::Quit, 8))),
+        Id::Data => (DATA_MOST, "oversize data message", 0),
+        Id::Send => (SEND_MOST, TOO_LONG, 0),
+        Id::Rcv2 => (PATH_MOST, TOO_LONG, 8),
+        Id::Snd2 => (PATH_MOST, TOO_LONG, 12),
+        _ => (PATH_MOST, TOO_LONG, 0),
     };
+    let body = arg as usize;
     if body > most {
         return Err(why.into());
     }
@@ -52,26 +53,26 @@ pub(super) fn first(bytes: &[u8]) -> Result<Option<(Request, usize)>, String> {
     if bytes.len() < length {
         return Ok(None);
     }
-    let request = request(id, &bytes[8..8 + body], &bytes[8 + body..length])?;
-    Ok(Some((request, length)))
+    let (body, behind) = bytes[8..length].split_at(body);
+    if !behind.is_empty() && behind[..4] != letters.of(id) {
+        return Err(format!("unexpected id in the setup of {}", letters.of(id).escape_ascii()));
+    }
+    Ok(Some((request(id, body, behind)?, length)))
 }
 
 /// A request of a whole body, and the second message behind it in v2 transfers.
-fn request(id: &[u8], body: &[u8], behind: &[u8]) -> Result<Request, String> {
-    if !behind.is_empty() && &behind[..4] != id {
-        return Err(format!("unexpected id in the setup of {}", id.escape_ascii()));
-    }
+fn request(id: Id, body: &[u8], behind: &[u8]) -> Result<Request, String> {
     Ok(match id {
-        b"STAT" => Request::Stat(Version::V1, body.to_vec()),
-        b"STA2" => Request::Stat(Version::V2, body.to_vec()),
-        b"LIST" => Request::List(Version::V1, body.to_vec()),
-        b"LIS2" => Request::List(Version::V2, body.to_vec()),
-        b"RECV" => Request::Recv(body.to_vec()),
-        b"RCV2" => match SyncFlags(number(&behind[4..8])) {
+        Id::Stat => Request::Stat(Version::V1, body.to_vec()),
+        Id::Sta2 => Request::Stat(Version::V2, body.to_vec()),
+        Id::List => Request::List(Version::V1, body.to_vec()),
+        Id::Lis2 => Request::List(Version::V2, body.to_vec()),
+        Id::Recv => Request::Recv(body.to_vec()),
+        Id::Rcv2 => match SyncFlags(number(&behind[4..8])) {
             SyncFlags::NONE => Request::Recv(body.to_vec()),
             flags => return Err(format!("unknown flags: {}", flags.0)),
         },
-        b"SEND" => {
+        Id::Send => {
             let comma = body.iter().rposition(|b| *b == b',').ok_or("missing , in ID_SEND_V1")?;
             if comma > PATH_MOST {
                 return Err(TOO_LONG.into());
@@ -80,7 +81,7 @@ fn request(id: &[u8], body: &[u8], behind: &[u8]) -> Result<Request, String> {
             let mode = FileMode(mode.ok_or("bad mode")?);
             Request::Send { path: body[..comma].to_vec(), mode, keep: true }
         }
-        b"SND2" => {
+        Id::Snd2 => {
             let mode = FileMode(number(&behind[4..8]));
             match SyncFlags(number(&behind[8..12])) {
                 SyncFlags::NONE => Request::Send { path: body.to_vec(), mode, keep: true },

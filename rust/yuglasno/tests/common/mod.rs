@@ -2,6 +2,7 @@
 #![allow(dead_code)]
 pub mod archives;
 pub mod fake;
+pub mod letters;
 pub mod program;
 pub mod shelf;
 

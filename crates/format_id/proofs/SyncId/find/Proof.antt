@@ -12,7 +12,7 @@ use Rattle.format_id.proofs.SyncId.find.Tie as tie
 arm : (c : tie.After-u32-at) {k : ℕ} → c .u32-at .result ≡ k → byNumber published all k ≡ named published (now (c .before .before .args .s))
 arm c e =
     ap (byNumber published all) (sym e)
-    ∙ named-number published published-sound (now (c .before .before .args .s)) (c .before .before .pre) (λ i. c .before .shared-slice-known .given i .fits) (c .u32-at .result) (c .u32-at .ensures)
+    ∙ named-number published (published-sound .four) (published-sound .bytes) (now (c .before .before .args .s)) (c .before .before .pre) (λ i. c .before .shared-slice-known .given i .fits) (c .u32-at .result) (c .u32-at .ensures)
 
 rest : tie.Need-returns-16
 rest c = sym (none-of (c .before .u32-at .result) (Unit {0}) all (c .match .rest) .1) ∙ arm (c .before) refl

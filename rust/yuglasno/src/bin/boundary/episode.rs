@@ -6,11 +6,14 @@ use crate::random::Random;
 use crate::stream::reply;
 use crate::Counts;
 use yuglasno::raw::RECORD;
+use yuglasno::Ids;
 
 pub struct Episode<'c> {
     random: Random,
     counts: &'c mut Counts,
     slices: Slices,
+    /// The ids that it was opened with.
+    ids: Ids,
     /// What is asked, by its number; 0 where no call is pending.
     asked: u32,
     /// Whether the record is none that the library wrote.
@@ -24,9 +27,9 @@ pub struct Episode<'c> {
 impl<'c> Episode<'c> {
     /// Up to 80 steps after an opening.
     pub fn run(mut random: Random, counts: &'c mut Counts) -> Result<(), String> {
-        let Some(slices) = opened(&mut random, counts)? else { return Ok(()) };
+        let Some((slices, ids)) = opened(&mut random, counts)? else { return Ok(()) };
         let mut episode =
-            Self { random, counts, slices, asked: 0, altered: false, over: false, call: 0, incoming: Vec::new() };
+            Self { random, counts, slices, ids, asked: 0, altered: false, over: false, call: 0, incoming: Vec::new() };
         for _ in 0..episode.random.below(80) {
             if episode.over && episode.random.one_in(2) {
                 break;
@@ -92,7 +95,7 @@ impl<'c> Episode<'c> {
             return self.broken();
         }
         if self.incoming.is_empty() {
-            self.incoming = reply(&mut self.random, self.call);
+            self.incoming = reply(&mut self.random, &self.ids, self.call);
         }
         let (at, window) = (self.slices.word(0) as usize, self.slices.word(1) as usize);
         let most = window.min(self.incoming.len());

@@ -1,6 +1,6 @@
 //! The exported functions under any input: `boundary CALLS SEED`. Sessions are run with random calls and reports; between
 //! their steps, and on copies of them, the functions are called with records, buffers, paths, call numbers, flags and
-//! counts of any value. Every crossing is checked: see `crossing.rs`. Exit status 1 at the first fault.
+//! counts of any value. Settings and ids files are of any kind too. Every crossing is checked: see `crossing.rs`. Exit status 1 at the first fault.
 #![forbid(unsafe_code)]
 
 mod crossing;
@@ -9,6 +9,7 @@ mod lent;
 mod opening;
 mod random;
 mod stream;
+mod tables;
 
 use episode::Episode;
 use random::Random;
@@ -20,7 +21,7 @@ use std::process::ExitCode;
 pub struct Counts {
     pub calls: u64,
     pub opened: u64,
-    pub answered: [u64; 18],
+    pub answered: [u64; 24],
     pub asked: [u64; 6],
     /// Calls on a record that was altered.
     pub altered: u64,
@@ -49,7 +50,8 @@ fn main() -> ExitCode {
 
 fn print(counts: &Counts, seed: u64) {
     let sum = |numbers: &[u64]| numbers.iter().sum::<u64>();
-    let each: Vec<String> = counts.answered.iter().enumerate().map(|(number, n)| format!("{number}: {n}")).collect();
+    let met = counts.answered.iter().enumerate().filter(|(_, n)| **n > 0);
+    let each: Vec<String> = met.map(|(number, n)| format!("{number}: {n}")).collect();
     println!("answers by number: {}", each.join(", "));
     println!("on records that were altered: {} calls", counts.altered);
     println!(
@@ -57,8 +59,8 @@ fn print(counts: &Counts, seed: u64) {
          no byte out of place, no part outside its slice",
         counts.calls,
         counts.opened,
-        sum(&counts.answered[1..12]),
-        counts.answered[0] + sum(&counts.answered[12..]),
+        sum(&counts.answered[1..12]) + sum(&counts.answered[22..]),
+        counts.answered[0] + sum(&counts.answered[12..22]),
         counts.asked[1],
         sum(&counts.asked[2..5]),
         counts.asked[5],

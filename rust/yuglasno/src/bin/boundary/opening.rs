@@ -1,9 +1,11 @@
-//! Openings, for buffers and banners of any kind.
+//! Openings, for settings, buffers and banners of any kind.
 use crate::crossing::Slices;
 use crate::lent::Lent;
 use crate::random::Random;
+use crate::tables::{self, noted, of_settings};
 use crate::Counts;
-use yuglasno::raw::{self, RECORD, REPLY};
+use yuglasno::raw::{self, RECORD, REPLY, SETTINGS};
+use yuglasno::Ids;
 
 const NAMES: [&str; 9] = [
     "stat_v2",
@@ -17,8 +19,8 @@ const NAMES: [&str; 9] = [
     "",
 ];
 
-/// An opening with any numbers, checked; then one for buffers of these lengths, where it is taken.
-pub fn opened(random: &mut Random, counts: &mut Counts) -> Result<Option<Slices>, String> {
+/// An opening with any numbers, checked; then one for buffers of these lengths, where it is taken, with the session's ids.
+pub fn opened(random: &mut Random, counts: &mut Counts) -> Result<Option<(Slices, Ids)>, String> {
     let rx = match random.below(12) {
         0 => random.below(8),
         1 => random.of(&[1_024, 1_032, 1_043, 4096, 65_544, 70_000]),
@@ -28,36 +30,44 @@ pub fn opened(random: &mut Random, counts: &mut Counts) -> Result<Option<Slices>
     let length = random.number(RECORD as u64).min(400) as usize;
     let (any_rx, any_msg) = (random.number(8) as usize, random.number(8) as usize);
     let mut elsewhere = Lent::filled(random, length);
-    open(random, counts, &mut elsewhere, any_rx, any_msg)?;
+    let settings = tables::settings(random, counts)?;
+    open(random, counts, &mut elsewhere, &settings, (any_rx, any_msg))?;
     let mut rec = Lent::filled(random, RECORD);
-    if open(random, counts, &mut rec, rx, msg)? != 0 {
+    if open(random, counts, &mut rec, &settings, (rx, msg))? != 0 {
         return Ok(None);
     }
     let (rx, msg) = (Lent::filled(random, rx), Lent::filled(random, msg));
-    Ok(Some(Slices { rec, rx, msg, lent: Lent::filled(random, 0), out: Lent::filled(random, REPLY) }))
+    let slices = Slices { rec, rx, msg, lent: Lent::filled(random, 0), out: Lent::filled(random, REPLY) };
+    Ok(Some((slices, tables::ids(settings.bytes()))))
 }
 
-fn open(random: &mut Random, counts: &mut Counts, rec: &mut Lent, rx: usize, msg: usize) -> Result<u32, String> {
-    let before = rec.bytes().to_vec();
+fn open(
+    random: &mut Random,
+    counts: &mut Counts,
+    rec: &mut Lent,
+    settings: &Lent,
+    (rx, msg): (usize, usize),
+) -> Result<u32, String> {
+    let (before, lent) = (rec.bytes().to_vec(), settings.clone());
     let banner = banner(random);
     let banner = Lent::new(random, &banner);
-    let number = raw::open(rec.lend(), banner.bytes(), rx, msg);
-    counts.calls += 1;
+    let number = raw::open(rec.lend(), settings.bytes(), banner.bytes(), rx, msg);
     let expected = match () {
         _ if rx < 8 => 1,
         _ if msg < rx => 2,
-        _ if before.len() != RECORD => 3,
-        _ => 0,
+        _ if before.len() != RECORD || lent.bytes().len() != SETTINGS => 3,
+        _ => of_settings(lent.bytes()),
     };
     if number != expected {
-        return Err(format!("opening {} bytes for {rx} and {msg} answered {number}", before.len()));
+        return Err(format!("opening {} bytes for {rx} and {msg} answered {number}, not {expected}", before.len()));
     }
-    if !rec.guards_stand() || !banner.guards_stand() || (number > 0 && before != rec.bytes()) {
+    let guards = rec.guards_stand() && banner.guards_stand() && settings.guards_stand();
+    if !guards || settings.bytes() != lent.bytes() || (number > 0 && before != rec.bytes()) {
         return Err(format!("opening for {rx} and {msg}, answered {number}, changed what it may not"));
     }
     match number {
-        0 => counts.opened += 1,
-        _ => counts.answered[number as usize] += 1,
+        0 => (counts.opened, counts.calls) = (counts.opened + 1, counts.calls + 1),
+        _ => noted(counts, number),
     }
     Ok(number)
 }

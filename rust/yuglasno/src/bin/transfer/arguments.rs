@@ -5,18 +5,21 @@ use std::os::unix::ffi::{OsStrExt, OsStringExt};
 use std::path::PathBuf;
 use std::time::Duration;
 use yuglasno::adb::Address;
-use yuglasno::{FileMode, CAPACITY};
+use yuglasno::{FileMode, Settings, CAPACITY};
 
 pub enum Request {
     Help,
     Version,
-    Run(Plan),
+    Run(Box<Plan>),
 }
 
 pub struct Plan {
     pub place: Place,
     pub features: Option<Vec<u8>>,
     pub capacity: usize,
+    /// A file of ids that is to be loaded into the settings.
+    pub ids: Option<PathBuf>,
+    pub settings: Settings,
     pub command: Command,
 }
 
@@ -74,6 +77,7 @@ struct Given {
     cut: Option<usize>,
     features: Option<Vec<u8>>,
     capacity: Option<usize>,
+    ids: Option<PathBuf>,
     recursive: bool,
     words: Vec<OsString>,
 }
@@ -91,7 +95,7 @@ pub fn parsed(mut words: impl Iterator<Item = OsString>) -> Result<Request, Stri
         }
     }
     let command = given.command()?;
-    Ok(Request::Run(given.plan(command)?))
+    Ok(Request::Run(Box::new(given.plan(command)?)))
 }
 
 impl Given {
@@ -113,6 +117,7 @@ impl Given {
             b"--cut" => self.cut = Some(number(words, "--cut")?),
             b"--features" => self.features = Some(needed(words, "--features", "LIST")?.into_vec()),
             b"--capacity" => self.capacity = Some(capacity(words)?),
+            b"--ids" => self.ids = Some(needed(words, "--ids", "FILE")?.into()),
             b"--recursive" => self.recursive = true,
             _ => return Err(format!("no option {}; behind -- a word may begin with -", option.display())),
         }
@@ -164,7 +169,8 @@ impl Given {
         set(serials, self.serial, "--serial goes with --server")?;
         set(timeouts, self.timeout, "--timeout goes with --server and --unix")?;
         set(cuts, self.cut, "--cut goes with --panel")?;
-        Ok(Plan { place, features: self.features, capacity: self.capacity.unwrap_or(CAPACITY), command })
+        let (capacity, settings) = (self.capacity.unwrap_or(CAPACITY), Settings::published());
+        Ok(Plan { place, features: self.features, capacity, ids: self.ids, settings, command })
     }
 }
 

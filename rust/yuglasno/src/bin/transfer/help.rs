@@ -25,6 +25,7 @@ where the panel is:
 
 options:
   --features LIST                   the panel's features, such as stat_v2,ls_v2,sendrecv_v2, where it does not say them
+  --ids FILE                        the ids of the panel's messages, where they are not the published ones (below)
   --capacity N                      the receive buffer's length (65544 takes every DATA message)
   --timeout SECONDS                 the longest wait for a connection, a read or a write, over --server or --unix; status 13 then
   --help, --version                 this text; the program's version
@@ -34,15 +35,21 @@ environment, as adb has it: ANDROID_SERIAL; ADB_SERVER_SOCKET, or ANDROID_ADB_SE
 A pull writes to a file of its own in FILE's folder, which gets FILE's name when it is on disk and the panel's numbers from
 before and after agree with its bytes. A push is cut off where FILE changes meanwhile.
 
+An ids file has two lines that end with byte 10: the published ids in this order, joined by commas, and what this panel has for each,
+four bytes from 33 to 126, no comma, and no two the same. It is read before anything else; 22 or 23 where it is not such a file.
+It must be a regular file, and - is a file of that name.
+  STAT,STA2,LIST,LIS2,SEND,SND2,RECV,RCV2,DATA,DONE,OKAY,FAIL,DENT,DNT2,QUIT
+  stat,sta2,list,lis2,send,snd2,recv,rcv2,data,done,okay,fail,dent,dnt2,quit
+
 exit status, which is also the number that a message begins with:
 ";
 
-/// The last answer that a session gives; the number behind it is the reader of requests' own.
-const SESSION: u32 = 17;
+/// The answer that is the reader of requests' own: no session has it.
+const BAD_REQUEST: u32 = 18;
 
 pub fn text() -> String {
     let mut text = USAGE.to_string();
-    let answers = MEANINGS.into_iter().filter(|(number, _)| *number <= SESSION);
+    let answers = MEANINGS.into_iter().filter(|(number, _)| *number != BAD_REQUEST);
     for (number, meaning) in answers.chain(STATUSES.map(|(number, meaning)| (number.into(), meaning))) {
         let _ = writeln!(text, "  {number:>2}  {meaning}");
     }

@@ -6,6 +6,7 @@ mod arguments;
 mod check;
 mod commands;
 mod help;
+mod ids;
 mod keep;
 mod panel;
 mod peer;
@@ -27,7 +28,9 @@ use stop::Stop;
 fn main() -> ExitCode {
     signals::taken_over();
     let done = match arguments::parsed(std::env::args_os().skip(1)) {
-        Ok(Request::Run(plan)) => run(&plan),
+        Ok(Request::Run(mut plan)) => {
+            ids::loaded(&mut plan).and_then(|()| run(&plan)).map_err(|stop| ids::hinted(stop, &plan))
+        }
         Ok(Request::Help) => printed(&help::text()),
         Ok(Request::Version) => printed(concat!("transfer ", env!("CARGO_PKG_VERSION"), "\n")),
         Err(text) => Err(Stop::usage(&text)),

@@ -21,7 +21,7 @@ impl<'p> Panel<'p> {
     pub fn opened(plan: &'p Plan) -> Result<Self, Stop> {
         let place = place::reached(plan)?;
         let (rx, msg) = (vec![0; plan.capacity], vec![0; plan.capacity]);
-        let session = Session::open(&place.banner, rx, msg)?;
+        let session = Session::open_with(&plan.settings, &place.banner, rx, msg)?;
         Ok(Self { plan, place, session })
     }
 

@@ -56,7 +56,7 @@ pub fn reached(plan: &Plan) -> Result<Reached, Stop> {
         Place::Stdio => Ok(Reached::new(Pair::new(io::stdin(), io::stdout()), given())),
         Place::Exec(words) => exec(words, given()),
         Place::Panel { cut } => {
-            let panel = Panel::with_jobs().cut(cut.unwrap_or(usize::MAX));
+            let panel = Panel::with_jobs().with_ids(plan.settings.ids()).cut(cut.unwrap_or(usize::MAX));
             let banner = plan.features.as_deref().map_or(Panel::BANNER.to_vec(), banner_of);
             Ok(Reached::new(panel, banner))
         }

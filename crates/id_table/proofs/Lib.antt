@@ -1,0 +1,5 @@
+pub mod Groups
+pub mod Form
+pub mod Tables
+pub mod Laws
+pub mod Facts
