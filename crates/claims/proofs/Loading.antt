@@ -1,10 +1,9 @@
 -- Settings that a file was loaded into open as its table, whatever else stands in them. Assumes nothing.
 use Prim.Native.Nat.{ℕ}
 use mathlib.Core.List.{List}
-use mathlib.Core.Path.{_≡_, sym, ap, _∙_}
+use mathlib.Core.Path.{_≡_, sym, _∙_}
 use Rattle.id_table.specs.IdsFile.{ids, idsIn}
 use Rattle.id_table.specs.Settings.{tableFrom, settingsOf, lentIn}
-use Rattle.id_table.specs.declared.Lent.{Lent}
 use Rattle.id_table.proofs.Laws.{id-tables}
 use Rattle.boundary.specs.Crossing.{crossIds, crossOpen}
 

@@ -18,7 +18,7 @@ use Rattle.ids.specs.Ids.{numberOf, dialectOf}
 use Rattle.ids.specs.declared.Ids.{Ids}
 use Rattle.request_message.specs.Composed.{only, asked}
 use Rattle.protocol.specs.Messages as M
-use Rattle.protocol.specs.Messages.{header, messageOf, bytesOfRequest, apart, pieces, dataMost}
+use Rattle.protocol.specs.Messages.{header, nonempty, messageOf, bytesOfRequest, apart, pieces, dataMost}
 use Rattle.protocol.proofs.Bodies.{pick-cases}
 use Rattle.protocol.proofs.Bytes.{over-length, put-in}
 use Rattle.request_piece.specs.Pieces.{partsOf, pieceList, pieceOf, shown}
@@ -55,20 +55,30 @@ given-some : (xs : List (List ℕ)) → map given (map some xs) ≡ xs
 given-some [] = refl
 given-some (x ∷ xs) = ap (_∷_ x) (given-some xs)
 
--- the pieces of a message, in a table: those under the number of its one id
+-- A message has one id: its header and its parts under the number of that are those in the table.
+abbrev pub Split : Type 0
+Split = List ℕ × List (List ℕ)
+
+abbrev pub splitBy : Dialect → M.Request → Split
+splitBy δ q = (header δ (messageOf δ q), messageOf δ q .parts)
+
+pub split-own : (t : Ids) (q : Request) (part : List ℕ) → splitBy (only (numberOf t (asked q))) (meant q part) ≡ splitBy (dialectOf t) (meant q part)
+unfolding messageOf
+split-own t Q.Stat part = refl
+split-own t Q.Sta2 part = refl
+split-own t Q.List part = refl
+split-own t Q.Lis2 part = refl
+split-own t Q.Recv part = refl
+split-own t (Q.Rcv2 f) part = refl
+split-own t (Q.Send m) part = refl
+split-own t (Q.Snd2 m f) part = refl
+split-own t Q.Data part = refl
+split-own t (Q.Done m) part = refl
+split-own t Q.Quit part = refl
+
 apart-own : (t : Ids) (q : Request) (part : List ℕ) → apart (only (numberOf t (asked q))) (meant q part) ≡ apart (dialectOf t) (meant q part)
-unfolding apart messageOf
-apart-own t Q.Stat part = refl
-apart-own t Q.Sta2 part = refl
-apart-own t Q.List part = refl
-apart-own t Q.Lis2 part = refl
-apart-own t Q.Recv part = refl
-apart-own t (Q.Rcv2 f) part = refl
-apart-own t (Q.Send m) part = refl
-apart-own t (Q.Snd2 m f) part = refl
-apart-own t Q.Data part = refl
-apart-own t (Q.Done m) part = refl
-apart-own t Q.Quit part = refl
+unfolding apart
+apart-own t q part = ap (λ (s : Split). s .0 ∷ nonempty (s .1)) (split-own t q part)
 
 pub apart-pieces : (t : Ids) (q : Request) (part : List ℕ)
     → apart (dialectOf t) (meant q part) ≡ map (bytesIn part) (pieceList (numberOf t (asked q)) q (length part))

@@ -1,8 +1,8 @@
 -- What a message carries, how long it is and how many pieces it has, and the cases of `messageOut` and `wroteOn`. Assumes nothing.
 use Prim.Native.Nat.{ℕ, _+_, _-_, _≤_, _<_}
 use mathlib.Core.Bool.{Bool, true, false, true≢false}
-use mathlib.Core.List.{List}
-use mathlib.Core.Path.{_≡_, refl, sym, ap, _∙_}
+use mathlib.Core.List.{List, _++_}
+use mathlib.Core.Path.{_≡_, sym, ap, _∙_}
 use native.Mathlib.Decide.{decLe}
 use native.Mathlib.Nat.{lt-of-not-le}
 use native.Mathlib.Omega.{arith}
@@ -25,6 +25,7 @@ use Rattle.recv_buf.specs.declared.RecvBuf.{RecvBuf}
 use Rattle.request.specs.Meaning.{meant}
 use Rattle.request.specs.declared.Request.{Request}
 use Rattle.request.specs.declared.Request.the-variants as Q
+use Rattle.session.proofs.Writes.{Split, split-own}
 use Rattle.session.specs.State.{dialectIn, St, out, Half, half, stepped, at}
 use Rattle.session.specs.Sends.{carried, isEnd, idFor, sendPiece, messageOut, sent, resumed, wroteOn}
 use Rattle.session.specs.declared.Pending.the-variants.{Idle, Writing}
@@ -59,18 +60,8 @@ message-long t q =
 -- a message has one id: under its number it is the message in the table
 pub bytes-own : (t : Ids) (q : Request) (part : List ℕ)
     → bytesOfRequest (only (numberOf t (asked q))) (meant q part) ≡ bytesOfRequest (dialectOf t) (meant q part)
-unfolding bytesOfRequest messageOf
-bytes-own t Q.Stat part = refl
-bytes-own t Q.Sta2 part = refl
-bytes-own t Q.List part = refl
-bytes-own t Q.Lis2 part = refl
-bytes-own t Q.Recv part = refl
-bytes-own t (Q.Rcv2 f) part = refl
-bytes-own t (Q.Send m) part = refl
-bytes-own t (Q.Snd2 m f) part = refl
-bytes-own t Q.Data part = refl
-bytes-own t (Q.Done m) part = refl
-bytes-own t Q.Quit part = refl
+unfolding bytesOfRequest
+bytes-own t q part = ap (λ (s : Split). s .0 ++ joined (s .1)) (split-own t q part)
 
 parts-few : (i : ℕ) (q : Request) → length (partsOf i q) ≤ 4
 parts-few i Q.Stat = omega arith
