@@ -4,6 +4,7 @@ import copy
 import itertools
 import json
 import re
+import stat
 import struct
 
 import host
@@ -21,8 +22,8 @@ OF_THE_END = r'command read failure|filename read failure'
 
 
 class Exchange:
-    """What was asked and said, and the data in it; the calls that ask it, where they are ours, and those that read the reply; an ids file,
-    where the ids are not the published ones."""
+    """What was asked and said, and the data in it; the calls that ask it, where they are ours, and those that read the reply; the modes of
+    the regular files that were there afterwards; an ids file, where the ids are not the published ones."""
 
     def __init__(self, line):
         entry = json.loads(line)
@@ -35,6 +36,8 @@ class Exchange:
         self.data = b''.join(data for header, data in itertools.pairwise(wrote['server']) if header[:4] == b'DATA' and len(header) == 8)
         self.calls, self.ids = ours(self.asked), None
         self.reading = self.calls or list(reading(self.meaning))
+        modes = {file['path'].encode(): int(file['mode'], 0) for file in entry.get('after', []) if file['exists']}
+        self.files = {path: mode for path, mode in modes.items() if stat.S_ISREG(mode)}
 
 
 # ---- requests

@@ -1,6 +1,6 @@
 """The program `heard_requests` on streams of requests made here from SYNC.TXT and file_sync_protocol.h, with Python's struct module and none of the
-library's code: requests of every kind and length, streams longer than its buffer, in pieces of every size, cut off anywhere and damaged.
-`heard.py --write` stores the program's example.
+library's code: requests of every kind and length, modes in every text, streams longer than its buffer, in pieces of every size, cut off anywhere
+and damaged. `heard.py --write` stores the program's example.
 
 The last line is 'N passed, M failed'."""
 import contextlib
@@ -18,6 +18,7 @@ import threading
 import time
 
 from counted import Count
+from modes import MODES, SEND_MOST, mode_of, mode_texts
 
 ROOT = pathlib.Path(__file__).resolve().parent.parent
 CRATE = ROOT / 'crates' / 'heard_requests'
@@ -34,9 +35,10 @@ def rcv2(path, flags):
     return b'RCV2' + struct.pack('<I', len(path)) + path + b'RCV2' + struct.pack('<I', flags), ['RCV2', path.hex().upper(), str(flags)]
 
 
-def send(path, mode):
-    text = path + b',' + str(mode).encode()
-    return b'SEND' + struct.pack('<I', len(text)) + text, ['SEND', path.hex().upper(), str(mode)]
+def send(path, mode, text=None):
+    """The mode in decimal, or in a text of its own."""
+    body = path + b',' + (str(mode).encode() if text is None else text)
+    return b'SEND' + struct.pack('<I', len(body)) + body, ['SEND', path.hex().upper(), str(mode)]
 
 
 def snd2(path, mode, flags):
@@ -66,6 +68,7 @@ REQUESTS = [
     send(b'/j', 33188),
     send(b'/a,b,c', 0),
     send(b'/max', 4294967295),
+    send(b'/j', 33188, b'0100644'),
     snd2(b'/a', 33188, 0x80000001),
     data(b''),
     data(bytes(range(1, 40))),
@@ -78,18 +81,19 @@ LONGEST = [
     path_only(b'STAT', b'p' * PATH_MOST),
     rcv2(b'q' * PATH_MOST, 0),
     send(b'r' * PATH_MOST, 4294967295),
+    send(b'r' * PATH_MOST, 4294967295, b'037777777777'),
     snd2(b's' * PATH_MOST, 4294967295, 4),
     data(bytes(range(256)) * (DATA_MOST // 256)),
 ]
 
 # headers at the limits: id, arg, and whether it is 18 by them
 HEADERS = [
-    *((name, PATH_MOST + over, over > 0) for name in (b'STAT', b'STA2', b'LIST', b'LIS2', b'RECV', b'RCV2', b'SND2') for over in (0, 1, 10, 11)),
-    *((b'SEND', PATH_MOST + over, over > 11) for over in (0, 1, 10, 11, 12)),
-    *((b'DATA', length, length > DATA_MOST) for length in (PATH_MOST + 1, PATH_MOST + 12, DATA_MOST, DATA_MOST + 1)),
+    *((name, PATH_MOST + over, over > 0) for name in (b'STAT', b'STA2', b'LIST', b'LIS2', b'RECV', b'RCV2', b'SND2') for over in (0, 1, 11, 13)),
+    *((b'SEND', PATH_MOST + over, PATH_MOST + over > SEND_MOST) for over in (0, 1, 10, 11, 12, 13, 14)),
+    *((b'DATA', length, length > DATA_MOST) for length in (PATH_MOST + 1, SEND_MOST + 1, DATA_MOST, DATA_MOST + 1)),
 ]
 
-# the mode of a SEND with a leading zero is answered 18
+# the mode of a SEND that is neither: an 8 is no octal digit, and decimal has no leading zero
 DAMAGED = b'SEND' + struct.pack('<I', 8) + b'/j,03318'
 
 
@@ -169,15 +173,27 @@ def limits(count):
     for name, arg, refused in HEADERS:
         header = name + struct.pack('<I', arg)
         count.check(run(header) == (b'0,18\n' if refused else b'0,more,8\n'), f'{name} with arg {arg}')
-    for length in range(PATH_MOST - 2, PATH_MOST + 11):
-        for mode in (0, 33188, 4294967295):
-            message, fields = send(b'p' * length, mode)
+    for length in range(PATH_MOST - 2, PATH_MOST + 13):
+        for text in (b'0', b'33188', b'4294967295', b'00', b'0100644', b'03777777777', b'037777777777'):
+            message, fields = send(b'p' * length, mode_of(text), text)
             refused = length > PATH_MOST
             expected = f"0,{'18' if refused else ','.join(fields)}\n".encode()
-            count.check(run(message) == expected, f'a SEND of {length} bytes, mode {mode}')
-            early = len(message) - 8 > PATH_MOST + 11
+            count.check(run(message) == expected, f'a SEND of {length} bytes, mode {text}')
+            early = len(message) - 8 > SEND_MOST
             cut = f"0,{'18' if early else f'more,{len(message) - 1}'}\n".encode()
-            count.check(run(message[:-1]) == cut, f'a SEND of {length} bytes, mode {mode}, but for its last byte')
+            count.check(run(message[:-1]) == cut, f'a SEND of {length} bytes, mode {text}, but for its last byte')
+
+
+def modes(count):
+    """The table of texts, and others at random; a request behind each shows how many bytes were taken."""
+    for text, mode in MODES.items():
+        count.check(mode_of(text) == mode, f'the table has {mode} for {text}, and Python reads {mode_of(text)}')
+    for text in mode_texts():
+        request = send(b'/j', mode_of(text), text)
+        message, refused = request[0], mode_of(text) is None
+        expected = printed([], None, True) if refused else printed([request, quit_()])
+        count.check(run(stream([request, quit_()])) == expected, f'the mode {text}: not {expected}')
+        count.check(run(message[:-1]) == f'0,more,{len(message) - 1}\n'.encode(), f'the mode {text}, but for its last byte')
 
 
 def long_streams(count):
@@ -220,6 +236,7 @@ def main():
     example(count)
     cut_off(count)
     limits(count)
+    modes(count)
     long_streams(count)
     unreadable(count)
     count.finish()

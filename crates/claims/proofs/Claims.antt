@@ -10,27 +10,28 @@ use lib.ListN.{length, getD, take, drop}
 use Rattle.protocol.specs.Answers as A
 use Rattle.protocol.specs.Answers.{End}
 use Rattle.protocol.specs.Banners as BannerFacts
-use Rattle.protocol.specs.Bytes.{Bytes, ascii, put}
+use Rattle.protocol.specs.Bytes.{Bytes, ascii, has, put}
 use Rattle.protocol.specs.Calls.{Call, messages}
 use Rattle.protocol.specs.Refusal.{Setting, requestRefusal, refusal}
 use Rattle.protocol.specs.Decimal.{decimal, canonical}
 use Rattle.protocol.specs.Fact.{Hold}
 use Rattle.protocol.specs.Features.{featuresOf}
 use Rattle.protocol.specs.Flags.{refusedFlags}
-use Rattle.protocol.specs.Headers.{Accepted, Heads}
+use Rattle.protocol.specs.Headers.{sendWith, Accepted, Heads}
 use Rattle.protocol.specs.Ids.{Id, Dialect, Table, under, Sound, Legal, named, published}
 use Rattle.protocol.specs.Layouts as LayoutFacts
 use Rattle.protocol.specs.Lettered as LetterFacts
 use Rattle.protocol.specs.Limits as LimitFacts
 use Rattle.protocol.specs.Losses as LossFacts
-use Rattle.protocol.specs.Messages.{Request, chunk, snd2, joined, bytesOfRequest, pieces, HostWrites}
+use Rattle.protocol.specs.Messages.{Request, send, chunk, snd2, joined, bytesOfRequest, pieces, HostWrites}
+use Rattle.protocol.specs.Modes.{modeIn, octal, InOctal}
 use Rattle.protocol.specs.Numbers as NumberFacts
 use Rattle.protocol.specs.Reader.{Config, plainAnswers, plainWrites}
 use Rattle.protocol.specs.Received as ReceiveFacts
 use Rattle.protocol.specs.Records.{idAt, argAt}
 use Rattle.protocol.specs.Refusals.{Row, rows, settingAt, PathsRefused}
 use Rattle.protocol.specs.Replies as ReplyFacts
-use Rattle.protocol.specs.Requests.{more, refused, request, readRequest}
+use Rattle.protocol.specs.Requests.{more, refused, request, withMode, readRequest}
 use Rattle.protocol.specs.Trials.{Trial, trials}
 use Rattle.protocol.specs.Written as WriteFacts
 use Rattle.protocol.proofs.Banners as Banners
@@ -42,6 +43,7 @@ use Rattle.protocol.proofs.Lettered as Lettered
 use Rattle.protocol.proofs.Limits as Limits
 use Rattle.protocol.proofs.Losses as Losses
 use Rattle.protocol.proofs.Messages as Messages
+use Rattle.protocol.proofs.Modes as Modes
 use Rattle.protocol.proofs.Numbers as Numbers
 use Rattle.protocol.proofs.Received as Received
 use Rattle.protocol.proofs.Refusals as Refusals
@@ -190,9 +192,24 @@ read-back = Requests.read-back
 pub unrefused-writes : (g : Setting) (q : Call) → refusal g q ≡ none → Unrefused.Narrow q → Unrefused.AllWritten (g .dialect) (messages q)
 unrefused-writes = Writing.unrefused-writes
 
--- "what is accepted is what the host would write, but for DATA of length 0"
+-- "what is accepted is what the host would write, but for DATA of length 0", and in its bytes, but for modes in octal; "reading back and
+-- writing again yields the same request, and equal bytes exactly where the mode came in decimal"
 pub accepted : (d : Dialect) → Sound d → (s : List ℕ) → Bytes s → (q : Request) (n : ℕ) → readRequest d s ≡ request q n → Accepted d s q n
 accepted = Requests.accepted
+
+-- a SEND whose mode stands in any text without a comma
+pub mode-read : (d : Dialect) → Sound d → d .longest + 13 < 0x1_0000_0000 → (p text : List ℕ) → has 44 text ≡ false
+    → length p + 1 + length text ≤ d .longest + 13 → (rest : List ℕ)
+    → readRequest d (sendWith d p text ++ rest) ≡ withMode d p (length (sendWith d p text)) (modeIn text)
+mode-read = Requests.mode-read
+
+-- ... in "a leading 0 followed by one to eleven octal digits": it is read as it is meant; every u32 has a text of this form
+pub octal-read : (d : Dialect) → Sound d → d .longest + 13 < 0x1_0000_0000 → (p text : List ℕ) (m : ℕ) → HostWrites d (send p m) → InOctal text m
+    → (rest : List ℕ) → readRequest d (sendWith d p text ++ rest) ≡ request (send p m) (length (sendWith d p text))
+octal-read = Requests.octal-read
+
+pub octal-length : (m : ℕ) → m < 0x1_0000_0000 → length (octal m) ≤ 11
+octal-length = Modes.octal-length
 
 pub empty-data : (d : Dialect) → Sound d → d .longest + 11 < 0x1_0000_0000 → (rest : List ℕ)
     → readRequest d (bytesOfRequest d (chunk []) ++ rest) ≡ request (chunk []) (length (bytesOfRequest d (chunk [])))
@@ -285,12 +302,15 @@ files-hold = (IdRows.taken-hold, IdRows.malformed-hold, IdRows.doubled-hold)
 pub settings-hold : Hold IdFacts.settings × Hold IdFacts.lending
 settings-hold = (IdRows.settings-hold, IdRows.lending-holds)
 
--- the panel's request reader, decimals, the ids
+-- the panel's request reader, decimals, modes, the ids
 pub receiving-holds : Hold ReceiveFacts.receiving
 receiving-holds = Received.receiving-holds
 
 pub decimals-hold : Hold ReceiveFacts.decimals
 decimals-hold = Received.decimals-hold
+
+pub modes-hold : Hold ReceiveFacts.modes × Hold ReceiveFacts.octals
+modes-hold = Received.modes-hold
 
 pub ids-hold : Hold ReceiveFacts.spelt × Hold ReceiveFacts.found
 ids-hold = Received.ids-hold

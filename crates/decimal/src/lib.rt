@@ -1,10 +1,11 @@
-// A u32 as decimal digits, and back (000's base/decimal.rs).
+// A u32 as decimal digits (000's base/decimal.rs), and back; digits of another base read.
 ghost use mathlib.Core.Path.{_≡_};
 ghost use mathlib.Core.List.{List};
 ghost use Prim.Native.Nat.{ℕ, _≤_};
 ghost use lib.ListN.{length};
 ghost use Rattle.protocol.specs.Bytes.{over, put, putLength};
 ghost use Rattle.protocol.specs.Decimal.{decimal, canonical};
+ghost use Rattle.protocol.specs.Digits.{spelled};
 ghost use Rattle.decimal.specs.Meaning.{parsed};
 
 fn digit_count(n: u32) -> usize
@@ -51,19 +52,10 @@ pub enum Parsed {
     Invalid,
 }
 
-// The number whose digits text is: no leading zero, no other byte, below 2^32.
-pub fn parse_u32(text: &[u8]) -> Parsed
-    ensures { λ r. ⌜ parsed r ≡ canonical (now (text .entry)) ⌝ }
+// The number that text spells in digits of a base up to 10: no other byte, below 2^32. An empty text spells 0.
+pub fn parse_digits(text: &[u8], base: u32) -> Parsed
+    ensures { λ r. ⌜ parsed r ≡ spelled base 0 (now (text .entry)) ⌝ }
 {
-    if text.len() == 0 {
-        return Parsed::Invalid;
-    }
-    if text[0] == b'0' {
-        if text.len() == 1 {
-            return Parsed::Number(0);
-        }
-        return Parsed::Invalid;
-    }
     let mut n: u64 = 0;
     let mut i = 0;
     while i < text.len() {
@@ -71,10 +63,11 @@ pub fn parse_u32(text: &[u8]) -> Parsed
         if b < b'0' {
             return Parsed::Invalid;
         }
-        if b'9' < b {
+        let digit = (b - b'0') as u32;
+        if base <= digit {
             return Parsed::Invalid;
         }
-        let next = n * 10 + (b - b'0') as u64;
+        let next = n * base as u64 + digit as u64;
         if 0xffff_ffff < next {
             return Parsed::Invalid;
         }
@@ -82,4 +75,19 @@ pub fn parse_u32(text: &[u8]) -> Parsed
         i += 1;
     }
     Parsed::Number(n as u32)
+}
+
+// The number whose decimal digits text is: no leading zero, no other byte, below 2^32.
+pub fn parse_u32(text: &[u8]) -> Parsed
+    ensures { λ r. ⌜ parsed r ≡ canonical (now (text .entry)) ⌝ }
+{
+    if text.len() == 0 {
+        return Parsed::Invalid;
+    }
+    if 1 < text.len() {
+        if text[0] == b'0' {
+            return Parsed::Invalid;
+        }
+    }
+    parse_digits(text, 10)
 }

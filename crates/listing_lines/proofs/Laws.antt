@@ -10,11 +10,12 @@ use lib.ListN.{length, set, getD, take, drop, length-append, take-append-drop}
 use lib.Seq.{set-split, take-suc, take-length, append-snoc}
 use Rattle.protocol.specs.Bytes.{ascii, over, put, putLength}
 use Rattle.protocol.specs.Decimal.{decimal}
+use Rattle.protocol.specs.Modes.{octal}
 use Rattle.protocol.specs.Records.{Stat}
 use Rattle.protocol.proofs.Bytes.{over-length, over-over, put-in, putLength-in, end-whole, end-back, end-put, end-putLength}
 use Rattle.protocol.proofs.Decimal.{decimal-length}
-use Rattle.listing_lines.specs.Lines.{octal, hexDigit, hexadecimal, newline, numbers, heading, entryLine, endLine, laidIn, headingRoom, entryRoom, endRoom, Laid}
-use Rattle.listing_lines.proofs.Octal.{octal-length}
+use Rattle.protocol.proofs.Modes.{octal-length}
+use Rattle.listing_lines.specs.Lines.{hexDigit, hexadecimal, newline, numbers, heading, entryLine, endLine, laidIn, headingRoom, entryRoom, endRoom, Laid}
 
 -- one byte stored
 pub set-over : (b : List ℕ) (at x : ℕ) → at < length b → set b at x ≡ over b at (x ∷ [])

@@ -1,22 +1,15 @@
 -- The lines of the program `listing` (document 01, "Trial pieces"): "a line of names, a line per entry (mode in octal, size and mtime in
 -- decimal, name bytes in hexadecimal), then "end" and 0 or the answer's number. Fields are joined by commas; each line ends with a newline."
 -- Assumes nothing.
-use Prim.Native.Nat.{ℕ, zero, suc, _+_, _*_, _/_, _%_}
+use Prim.Native.Nat.{ℕ, _+_, _*_, _/_, _%_}
 use mathlib.Core.List.{List, [], _∷_, _++_}
 use mathlib.Core.Path.{_≡_}
-use lib.Dec.{leb, ltb}
+use lib.Dec.{leb}
 use lib.ListN.{length, getD}
 use Rattle.protocol.specs.Bytes.{pick, ascii, over}
 use Rattle.protocol.specs.Decimal.{decimal}
+use Rattle.protocol.specs.Modes.{octal}
 use Rattle.protocol.specs.Records.{Stat}
-
--- the octal digits of n, no leading zero; f, at least n, ends the recursion
-abbrev pub octalBy : ℕ → ℕ → List ℕ
-octalBy zero n = (48 + n) ∷ []
-octalBy (suc f) n = pick (ltb n 8) ((48 + n) ∷ []) (octalBy f (n / 8) ++ (48 + n % 8) ∷ [])
-
-unfoldable pub octal : ℕ → List ℕ
-octal n = octalBy n n
 
 -- a digit below 16
 unfoldable pub hexDigit : ℕ → ℕ

@@ -1,6 +1,6 @@
 -- Laws of what follows a request's header (`bodyOf` of `specs/Requests.antt`), for each kind of request in both directions: a request
--- that is read there is one that the host would write so, but for DATA of length 0 (`means`), and what the host writes there is read as
--- the request meant (`reads`). Assumes nothing.
+-- that is read there is one that the host would write so, but for DATA of length 0 and modes in octal (`means`), and what the host writes
+-- there is read as the request meant (`reads`). Assumes nothing.
 use Prim.Native.Nat.{ℕ, suc, _+_, _≤_, _<_}
 use mathlib.Core.Bool.{Bool, true, false, not, _||_, true≢false}
 use mathlib.Core.List.{List, [], _∷_, _++_, append-assoc, append-nil}
@@ -14,15 +14,17 @@ use lib.Dec.{eqb}
 use lib.ListN.{length, take, drop, length-append, take-append-drop}
 use lib.Seq.{take-at, take-append-seam, drop-append-seam, drop-append-add, drop-drop, length-take-le}
 use Rattle.protocol.specs.Bytes.{pick, Bytes, has, same, numberAt}
-use Rattle.protocol.specs.Decimal.{decimal, canonical}
+use Rattle.protocol.specs.Decimal.{decimal}
 use Rattle.protocol.specs.Flags.{refusedFlags}
+use Rattle.protocol.specs.Headers.{Form, by-host, in-octal}
 use Rattle.protocol.specs.Ids.{Sound, Id, STAT, STA2, LIST, LIS2, SEND, SND2, RECV, RCV2, DATA, DONE, OKAY, FAIL, DENT, DNT2, QUIT, Dialect}
 use Rattle.protocol.specs.Messages.{PathOnly, stat, sta2, list, lis2, recv, pathId, Request, ask, rcv2, send, snd2, chunk, done, quit, word, messageOf, joined, bytesOfRequest, PathOk, dataMost, HostWrites}
+use Rattle.protocol.specs.Modes.{modeIn}
 use Rattle.protocol.specs.Records.{headerSize}
-use Rattle.protocol.specs.Requests.{Read, more, refused, request, Kind, pathOnly, pathFlags, pathMode, pathModeFlags, bytes, time, bare, foreign, kindOf, argOk, following, badPath, commaAt, lastComma, withMode, atComma, bodyOf}
+use Rattle.protocol.specs.Requests.{Read, more, refused, request, Kind, pathOnly, pathFlags, pathMode, pathModeFlags, bytes, kindOf, argOk, following, badPath, commaAt, lastComma, withMode, atComma, bodyOf}
 use Rattle.protocol.proofs.Bytes.{same-refl, same-eq}
-use Rattle.protocol.proofs.Decimal.{decimal-length, decimal-has-not, canonical-decimal, decimal-canonical}
 use Rattle.protocol.proofs.Messages.{kind-path}
+use Rattle.protocol.proofs.Modes.{Written, decimal-mode, mode-written, decimal-text}
 use Rattle.protocol.proofs.Words.{word-fits, word-behind, number-behind, word-there, word-last}
 
 -- what the panel takes: what the host writes, and DATA of length 0
@@ -39,7 +41,7 @@ or-false true b e = absurd (true≢false e)
 or-false false b e = (refl, e)
 
 -- paths
-path-good : (d : Dialect) (p : List ℕ) → PathOk d p → badPath d p ≡ false
+pub path-good : (d : Dialect) (p : List ℕ) → PathOk d p → badPath d p ≡ false
 unfolding badPath
 path-good d p h = rw (le-ltb _ _ (h .short), h .noNul)
 
@@ -96,11 +98,11 @@ comma-there (x ∷ b) k e = go (comma-there b) (lastComma b) refl e
     go rest none c f = first (eqb x 44) refl f
 
 -- What an answer for a whole message of id i and arg n says of b, which follows its header: it is never "more"; it is 18, or the
--- request that is written so, with the message's size.
+-- request that has these bytes, with the message's size.
 abbrev pub Means : Dialect → Id → ℕ → List ℕ → Read → Type 0
 Means d i n b more = ⊥
 Means d i n b refused = Unit {0}
-Means d i n b (request q size) = Taken d q × (d .bytes i ++ word n ++ b ≡ bytesOfRequest d q) × (size ≡ headerSize + length b)
+Means d i n b (request q size) = Taken d q × Form d q (d .bytes i ++ word n ++ b) × (size ≡ headerSize + length b)
 
 module _ (d : Dialect) where
   means-path : (i : PathOnly) (n : ℕ) (b : List ℕ) → length b ≡ n → Means d (pathId i) n b (bodyOf d (pathOnly i) n b)
@@ -108,7 +110,7 @@ module _ (d : Dialect) where
   means-path i n b e =
       pick-cases (Means d (pathId i) n b) (badPath d b)
       (λ _. tt)
-      (λ good. (inl (path-was-good d b good), rw (append-nil b, e), rw e))
+      (λ good. (inl (path-was-good d b good), by-host (rw (append-nil b, e)), rw e))
 
   means-flags : (n : ℕ) (b : List ℕ) → Bytes b → length b ≡ n + 8 → Means d RCV2 n b (bodyOf d pathFlags n b)
   unfolding bodyOf bytesOfRequest messageOf
@@ -119,7 +121,7 @@ module _ (d : Dialect) where
       (λ passed.
       let (path, inner, pass) = tests-passed d (take n b) (take 4 (drop n b)) (d .bytes RCV2) true f passed in
       let there = inner-there b n (d .bytes RCV2) (word f ++ []) inner (word-last b (n + 4) (n + 8) h (omega arith) e) in
-      (inl (path, (pass, word-fits b (n + 4) h)), rw (length-take-le n b (omega arith), there), rw e))
+      (inl (path, (pass, word-fits b (n + 4) h)), by-host (rw (length-take-le n b (omega arith), there)), rw e))
 
   means-mode-flags : (n : ℕ) (b : List ℕ) → Bytes b → length b ≡ n + 12 → Means d SND2 n b (bodyOf d pathModeFlags n b)
   unfolding bodyOf bytesOfRequest messageOf
@@ -133,26 +135,34 @@ module _ (d : Dialect) where
       let last = word-last b (n + 8) (n + 12) h (omega arith) e in
       let words = ap (λ (t : List ℕ). word m ++ t) last ∙ word-there b (n + 4) (n + 8) h (omega arith) (omega arith) in
       let there = inner-there b n (d .bytes SND2) (word m ++ (word f ++ [])) inner words in
-      (inl (path, (word-fits b (n + 4) h, (pass, word-fits b (n + 8) h))), rw (length-take-le n b (omega arith), there), rw e))
+      (inl (path, (word-fits b (n + 4) h, (pass, word-fits b (n + 8) h))), by-host (rw (length-take-le n b (omega arith), there)), rw e))
+
+  -- a SEND's text, by what its mode is written in
+  text-form : (p t b : List ℕ) (m n : ℕ) → p ++ 44 ∷ t ≡ b → length b ≡ n → Written t m → Form d (send p m) (d .bytes SEND ++ word n ++ b)
+  unfolding bytesOfRequest messageOf
+  text-form p t b m n there e (inl w) =
+      let size : length p + 1 + length (decimal m) ≡ n = omega (arith, length-append p (44 ∷ t), ap length there, ap length w) in
+      by-host (rw (append-nil (decimal m), size, ← w, there))
+  text-form p t b m n there e (inr w) =
+      let size : length p + 1 + length t ≡ n = omega (arith, length-append p (44 ∷ t), ap length there) in
+      in-octal p t m refl w (rw (size, there))
 
   means-mode : (n : ℕ) (b : List ℕ) → length b ≡ n → Means d SEND n b (bodyOf d pathMode n b)
-  unfolding bodyOf bytesOfRequest messageOf
+  unfolding bodyOf
   means-mode n b e = at (lastComma b) refl
     where
-      text : (k : ℕ) → lastComma b ≡ some k → (o : Option ℕ) → canonical (drop (suc k) b) ≡ o
+      text : (k : ℕ) → lastComma b ≡ some k → (o : Option ℕ) → modeIn (drop (suc k) b) ≡ o
           → Means d SEND n b (withMode d (take k b) (headerSize + length b) o)
       text k c none f = tt
       text k c (some m) f =
-          let (digits, small) = decimal-canonical (drop (suc k) b) m f in
-          let there : take k b ++ 44 ∷ decimal m ≡ b = rw (← digits) (comma-there b k c) in
-          let size : length (take k b) + 1 + length (decimal m) ≡ n = omega (arith, length-append (take k b) (44 ∷ decimal m), ap length there) in
+          let (written, small) = mode-written (drop (suc k) b) m f in
           pick-cases (Means d SEND n b) (badPath d (take k b))
           (λ _. tt)
-          (λ good. (inl (path-was-good d (take k b) good, small), rw (append-nil (decimal m), there, size), refl))
+          (λ good. (inl (path-was-good d (take k b) good, small), text-form (take k b) (drop (suc k) b) b m n (comma-there b k c) e written, refl))
 
       at : (o : Option ℕ) → lastComma b ≡ o → Means d SEND n b (atComma d b o)
       at none c = tt
-      at (some k) c = text k c (canonical (drop (suc k) b)) refl
+      at (some k) c = text k c (modeIn (drop (suc k) b)) refl
 
   taken-chunk : (b : List ℕ) → length b ≤ dataMost → Taken d (chunk b)
   taken-chunk [] h = inr refl
@@ -160,7 +170,7 @@ module _ (d : Dialect) where
 
   means-chunk : (n : ℕ) (b : List ℕ) → length b ≡ n → n ≤ dataMost → Means d DATA n b (bodyOf d bytes n b)
   unfolding bodyOf bytesOfRequest messageOf
-  means-chunk n b e h = (taken-chunk b (omega arith), rw (append-nil b, e), rw e)
+  means-chunk n b e h = (taken-chunk b (omega arith), by-host (rw (append-nil b, e)), rw e)
 
   empty : (b : List ℕ) → length b ≡ 0 → b ≡ []
   empty [] e = refl
@@ -179,8 +189,8 @@ module _ (d : Dialect) where
   means SEND n b h w ok e = means-mode n b e
   means SND2 n b h w ok e = means-mode-flags n b h e
   means DATA n b h w ok e = means-chunk n b e (leb-true _ _ ok)
-  means DONE n b h w ok e = (inl w, rw (empty b e), rw e)
-  means QUIT n b h w ok e = (inl tt, rw (eqb-true n 0 ok, empty b e), rw e)
+  means DONE n b h w ok e = (inl w, by-host (rw (empty b e)), rw e)
+  means QUIT n b h w ok e = (inl tt, by-host (rw (eqb-true n 0 ok, empty b e)), rw e)
   means OKAY n b h w ok e = absurd (true≢false (sym ok))
   means FAIL n b h w ok e = absurd (true≢false (sym ok))
   means DENT n b h w ok e = absurd (true≢false (sym ok))
@@ -192,6 +202,23 @@ pub record Reads (d : Dialect) (k : Kind) (n : ℕ) (b : List ℕ) (q : Request)
   pub ok : argOk d k n ≡ true
   pub follows : following k n ≡ length b
   pub reads : bodyOf d k n b ≡ request q (headerSize + following k n)
+
+-- a SEND whose mode stands in a text without a comma
+module _ (d : Dialect) (p t : List ℕ) (clear : has 44 t ≡ false) where
+  text-size : length (p ++ 44 ∷ t) ≡ length p + 1 + length t
+  text-size = omega (arith, length-append p (44 ∷ t))
+
+  pub mode-body : bodyOf d pathMode (length p + 1 + length t) (p ++ 44 ∷ t) ≡ withMode d p (headerSize + (length p + 1 + length t)) (modeIn t)
+  unfolding bodyOf
+  mode-body =
+      let text : drop (suc (length p)) (p ++ 44 ∷ t) ≡ t = ap (λ (k : ℕ). drop k (p ++ 44 ∷ t)) (sym (add-one (length p))) ∙ drop-append-add p (44 ∷ t) 1 in
+      rw (comma-last p t (comma-none t clear), take-append-seam p (44 ∷ t), text, text-size)
+
+  reads-mode : (m : ℕ) → PathOk d p → length p + 1 + length t < 0x1_0000_0000 → length p + 1 + length t ≤ d .longest + 13 → modeIn t ≡ some m
+      → Reads d pathMode (length p + 1 + length t) (p ++ 44 ∷ t) (send p m)
+  unfolding argOk following
+  reads-mode m path fits short mode =
+      record { fits = fits; ok = omega (arith, le-leb); follows = sym text-size; reads = mode-body ∙ rw (mode, path-good d p path) }
 
 module _ (d : Dialect) (sound : Sound d) (small : d .longest + 11 < 0x1_0000_0000) where
   reads-path : (i : PathOnly) (p : List ℕ) → PathOk d p → Reads d (pathOnly i) (length p) p (ask i p)
@@ -235,29 +262,6 @@ module _ (d : Dialect) (sound : Sound d) (small : d .longest + 11 < 0x1_0000_000
         reads = rw (flags, mode, take-append-seam p (x ++ t), drop-append-seam p (x ++ t), take-at x t 4 four, passes);
       }
 
-  reads-mode : (p : List ℕ) (m : ℕ) → HostWrites d (send p m) → Reads d pathMode (length p + 1 + length (decimal m)) (p ++ 44 ∷ decimal m) (send p m)
-  unfolding argOk following bodyOf
-  reads-mode p m h =
-      let t = decimal m in
-      let ten = decimal-length m (h .1) in
-      let short : length p + 1 + length t ≤ d .longest + 11 = omega arith in
-      let size : length (p ++ 44 ∷ t) ≡ length p + 1 + length t = omega (arith, length-append p (44 ∷ t)) in
-      let text : drop (suc (length p)) (p ++ 44 ∷ t) ≡ t = ap (λ (k : ℕ). drop k (p ++ 44 ∷ t)) (sym (add-one (length p))) ∙ drop-append-add p (44 ∷ t) 1 in
-      record {
-        fits = omega arith;
-        ok = omega (arith, le-leb);
-        follows = sym size;
-        reads =
-            rw (
-              comma-last p t (comma-none t (decimal-has-not 44 m refl)),
-              take-append-seam p (44 ∷ t),
-              text,
-              canonical-decimal m (h .1),
-              path-good d p (h .0),
-              size,
-            );
-      }
-
   reads-chunk : (x : List ℕ) → length x ≤ dataMost → Reads d bytes (length x) x (chunk x)
   unfolding argOk following bodyOf
   reads-chunk x h = record { fits = omega arith; ok = omega (arith, le-leb); follows = refl; reads = refl }
@@ -267,7 +271,10 @@ module _ (d : Dialect) (sound : Sound d) (small : d .longest + 11 < 0x1_0000_000
   unfolding messageOf argOk following bodyOf
   reads (ask i p) (inl h) = rw (append-nil p, kind-path i) (reads-path i p h)
   reads (rcv2 p f) (inl h) = reads-flags p f h
-  reads (send p m) (inl h) = rw (append-nil (decimal m)) (reads-mode p m h)
+  reads (send p m) (inl h) =
+      let (short, clear) = decimal-text m (h .1) in
+      let path = h .0 .short in
+      rw (append-nil (decimal m)) (reads-mode d p (decimal m) clear m (h .0) (omega arith) (omega arith) (decimal-mode m (h .1)))
   reads (snd2 p m f) (inl h) = reads-mode-flags p m f h
   reads (chunk x) (inl h) = rw (append-nil x) (reads-chunk x (h .1))
   reads (done t) (inl h) = record { fits = h; ok = refl; follows = refl; reads = refl }

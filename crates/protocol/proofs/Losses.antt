@@ -3,7 +3,7 @@ use mathlib.Core.Path.{refl}
 use Rattle.protocol.specs.Bytes.{numberAt}
 use Rattle.protocol.specs.Calls.{messages, cut}
 use Rattle.protocol.specs.Refusal.{refusal, requestRefusal, pathRefusal, flagRefusal, featureRefusal, transferRefusal}
-use Rattle.protocol.specs.Decimal.{decimal}
+use Rattle.protocol.specs.Digits.{digits}
 use Rattle.protocol.specs.Fact.{Hold}
 use Rattle.protocol.specs.Flags.{refusedFlags, several, unknown, dryRun}
 use Rattle.protocol.specs.Losses.{losses, lists, goesOn}
@@ -15,5 +15,5 @@ unfolding plain drain written writeBroke refusal requestRefusal pathRefusal flag
 losses-hold = refl
 
 pub lists-hold : Hold lists × Hold goesOn
-unfolding plainAnswers plainWrites writes messages cut bytesOfRequest messageOf decimal plain drain written refusal requestRefusal pathRefusal flagRefusal featureRefusal transferRefusal refusedFlags several unknown dryRun numberAt
+unfolding plainAnswers plainWrites writes messages cut bytesOfRequest messageOf digits plain drain written refusal requestRefusal pathRefusal flagRefusal featureRefusal transferRefusal refusedFlags several unknown dryRun numberAt
 lists-hold = (refl, refl)

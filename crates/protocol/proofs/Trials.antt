@@ -3,7 +3,7 @@ use mathlib.Core.List.{map}
 use mathlib.Core.Path.{_≡_, refl}
 use Rattle.protocol.specs.Bytes.{numberAt}
 use Rattle.protocol.specs.Refusal.{refusal, requestRefusal, pathRefusal}
-use Rattle.protocol.specs.Decimal.{decimal}
+use Rattle.protocol.specs.Digits.{digits}
 use Rattle.protocol.specs.Features.{hasFeature, restAfter, split}
 use Rattle.protocol.specs.Flags.{refusedFlags, several, unknown, dryRun}
 use Rattle.protocol.specs.Messages.{bytesOfRequest, messageOf}
@@ -12,5 +12,5 @@ use Rattle.protocol.specs.Records.{statAt}
 use Rattle.protocol.specs.Trials.{Trial, trials}
 
 pub trials-hold : map (λ (t : Trial). t .computed) trials ≡ map (λ (t : Trial). t .paper) trials
-unfolding decimal hasFeature restAfter split refusedFlags several unknown dryRun bytesOfRequest messageOf plain drain written plainAnswers refusal requestRefusal pathRefusal statAt numberAt
+unfolding digits hasFeature restAfter split refusedFlags several unknown dryRun bytesOfRequest messageOf plain drain written plainAnswers refusal requestRefusal pathRefusal statAt numberAt
 trials-hold = refl

@@ -166,6 +166,18 @@ read t s r = record { computed = readRequest (under t) s; paper = r }
 abbrev behind : List ℕ
 behind = ascii "FAIL, fail"
 
+-- modes that begin with a 0, the largest arg and one more (document 02, [5])
+abbrev sent : Table → Spelling → List (Fact Read)
+sent t w =
+    read t (w .send ++ 10 ∷ 0 ∷ 0 ∷ 0 ∷ ascii "/a,0100644") (request (send path 33188) 18)
+    ∷ read t (w .send ++ 5 ∷ 0 ∷ 0 ∷ 0 ∷ ascii "/a,00") (request (send path 0) 13)
+    ∷ read t (w .send ++ 4 ∷ 0 ∷ 0 ∷ 0 ∷ ascii "/a,0") (request (send path 0) 12)
+    ∷ read t (w .send ++ 5 ∷ 0 ∷ 0 ∷ 0 ∷ ascii "/a,08") refused
+    -- 1,037, 1,038
+    ∷ read t (w .send ++ 0x0d ∷ 4 ∷ 0 ∷ 0 ∷ []) more
+    ∷ read t (w .send ++ 0x0e ∷ 4 ∷ 0 ∷ 0 ∷ []) refused
+    ∷ []
+
 -- each of the eleven, alone, with bytes behind it, and without its last; the panel's four are none of the host's
 abbrev readBack : Table → Spelling → List (Fact Read)
 readBack t w =
@@ -173,6 +185,7 @@ readBack t w =
     ++ map (λ (m : Spelt). read t (m .bytes ++ behind) (request (m .asked) (m .size))) (eleven w)
     ++ map (λ (m : Spelt). read t (take (m .size - 1) (m .bytes)) more) (eleven w)
     ++ map (λ i. read t (i ++ 0 ∷ 0 ∷ 0 ∷ 0 ∷ []) refused) (w .okay ∷ w .fail ∷ w .dent ∷ w .dnt2 ∷ [])
+    ++ sent t w
 
 -- whole messages in the published letters: with the small letters they are 18, each of them; so is one whose inner id alone is published
 abbrev publishedToLow : List (Fact Read)

@@ -1,5 +1,7 @@
 pub mod Bytes
+pub mod Digits
 pub mod Decimal
+pub mod Modes
 pub mod Ids
 pub mod Records
 pub mod Flags

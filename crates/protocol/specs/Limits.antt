@@ -49,7 +49,7 @@ lengths =
 pub record Limits (t : Table) : Type 0 where
   pub path-fits : (p : List ℕ) → NoNul p → length p ≤ 1024 → pathRefusal (under t) p ≡ none
   pub path-over : (p : List ℕ) → NoNul p → 1024 < length p → pathRefusal (under t) p ≡ some (refused 7)
-  -- the longest path goes out with its length; a SEND of it and of ten digits has the largest arg, 1,035
+  -- the longest path goes out with its length; a SEND of it and of ten digits has the largest arg that is written, 1,035
   pub longest-asked : (p : List ℕ) → NoNul p → length p ≡ 1024 → writes (host t) (call (ask stat p)) ≡ (t STAT ++ 0 ∷ 4 ∷ 0 ∷ 0 ∷ []) ++ p
   pub longest-sent : (p : List ℕ) → NoNul p → length p ≡ 1024
       → writes (host t) (call (send p 4294967295)) ≡ (t SEND ++ 0x0b ∷ 4 ∷ 0 ∷ 0 ∷ []) ++ (p ++ ascii ",4294967295")

@@ -1,18 +1,20 @@
 -- Facts on the panel's request reader, on bytes that AOSP's service was sent (captures.jsonl, by the label given) or that a document names. 01:
 -- "Under 8 bytes: more. Then 18 if the id is none of the host's eleven .., if arg exceeds" its limit, "or QUIT's arg isn't 0; DONE's arg is
 -- free. Then more until the message is whole. Then 18 for a path with NUL or over" the limit, "an inner id that differs, flags the host would
--- refuse with 9, a SEND with no comma or whose text after the last comma isn't canonical decimal of a u32." The limits, 02's [2]: "SEND's
--- largest arg becomes 1,035, that of the other path requests 1,024; DATA keeps 65,536".
+-- refuse with 9, a SEND with no comma or whose text after the last comma isn't canonical decimal of a u32." The limits of paths and data, 02's
+-- [2]: "that of the other path requests 1,024; DATA keeps 65,536". SEND's mode and limit, 02's [5]: "A leading 0 followed by one to eleven
+-- octal digits whose value fits 32 bits is octal; a lone "0" is zero as ever; other text goes as before. Largest SEND arg: 1,037".
 -- Assumes nothing.
-use Prim.Native.Nat.{ℕ, _-_}
+use Prim.Native.Nat.{ℕ, _+_, _-_}
 use mathlib.Core.List.{List, [], _∷_, _++_, map}
 use mathlib.Core.Option.{Option, none, some}
-use lib.ListN.{take, replicate}
+use lib.ListN.{length, take, replicate}
 use Rattle.protocol.specs.Bytes.{ascii}
 use Rattle.protocol.specs.Decimal.{canonical}
 use Rattle.protocol.specs.Fact.{Fact}
 use Rattle.protocol.specs.Ids.{Id, all, letters, named, published}
 use Rattle.protocol.specs.Messages.{ask, stat, sta2, list, lis2, recv, Request, rcv2, send, snd2, chunk, done, quit}
+use Rattle.protocol.specs.Modes.{octalText}
 use Rattle.protocol.specs.Requests.{Read, more, refused, request, readRequest}
 
 abbrev row : List ℕ → Read → Fact Read
@@ -39,11 +41,17 @@ messages =
     ++ message (ascii "SND2" ++ 6 ∷ 0 ∷ 0 ∷ 0 ∷ [] ++ ascii "/w/lz4SND2" ++ 0xa4 ∷ 0x81 ∷ 0 ∷ 0 ∷ 2 ∷ 0 ∷ 0 ∷ 0 ∷ []) (snd2 (ascii "/w/lz4") 33188 2) 26
     ++ message (ascii "SND2" ++ 6 ∷ 0 ∷ 0 ∷ 0 ∷ [] ++ ascii "/w/drySND2" ++ 1 ∷ 2 ∷ 3 ∷ 0xf4 ∷ 0 ∷ 0 ∷ 0 ∷ 0x80 ∷ [])
     (snd2 (ascii "/w/dry") 0xf403_0201 0x8000_0000) 26
+    -- a mode of SND2 is a number: these four bytes are "0755"
+    ++ message (ascii "SND2" ++ 1 ∷ 0 ∷ 0 ∷ 0 ∷ [] ++ ascii "/SND20755" ++ 0 ∷ 0 ∷ 0 ∷ 0 ∷ []) (snd2 (ascii "/") 0x3535_3730 0) 21
     -- SEND-file, SEND-comma-in-path; the longest mode; no path
     ++ message (ascii "SEND" ++ 10 ∷ 0 ∷ 0 ∷ 0 ∷ [] ++ ascii "/w/a,33188") (send (ascii "/w/a") 33188) 18
     ++ message (ascii "SEND" ++ 12 ∷ 0 ∷ 0 ∷ 0 ∷ [] ++ ascii "/w/d,e,33188") (send (ascii "/w/d,e") 33188) 20
     ++ message (ascii "SEND" ++ 13 ∷ 0 ∷ 0 ∷ 0 ∷ [] ++ ascii "/w,4294967295") (send (ascii "/w") 4294967295) 21
     ++ message (ascii "SEND" ++ 2 ∷ 0 ∷ 0 ∷ 0 ∷ [] ++ ascii ",0") (send [] 0) 10
+    -- modes in octal: SEND-octal-mode, 02's example, two zeros
+    ++ message (ascii "SEND" ++ 9 ∷ 0 ∷ 0 ∷ 0 ∷ [] ++ ascii "/w/b,0755") (send (ascii "/w/b") 493) 17
+    ++ message (ascii "SEND" ++ 14 ∷ 0 ∷ 0 ∷ 0 ∷ [] ++ ascii "/w/d,e,0100644") (send (ascii "/w/d,e") 33188) 22
+    ++ message (ascii "SEND" ++ 3 ∷ 0 ∷ 0 ∷ 0 ∷ [] ++ ascii ",00") (send [] 0) 11
     -- SEND-file's data and DONE, SEND-empty-data, QUIT; any time
     ++ message (ascii "DATA" ++ 9 ∷ 0 ∷ 0 ∷ 0 ∷ [] ++ ascii "contents" ++ 10 ∷ []) (chunk (ascii "contents" ++ 10 ∷ [])) 17
     ++ message (ascii "DATA" ++ 2 ∷ 0 ∷ 0 ∷ 0 ∷ 0 ∷ 255 ∷ []) (chunk (0 ∷ 255 ∷ [])) 10
@@ -61,13 +69,14 @@ longMessage s q n = row s (request q n) ∷ row (take (n - 1) s) more ∷ []
 
 abbrev longMessages : List (Fact Read)
 longMessages =
-    -- STAT-path-1024 (there with a path of its own), and the others, each with its largest arg; a SEND with a shorter mode
+    -- STAT-path-1024 (there with a path of its own), and the others, each with its largest arg; a SEND with shorter modes
     longMessage (ascii "STAT" ++ 0 ∷ 4 ∷ 0 ∷ 0 ∷ longestPath) (ask stat longestPath) 1032
     ++ longMessage (ascii "STA2" ++ 0 ∷ 4 ∷ 0 ∷ 0 ∷ longestPath) (ask sta2 longestPath) 1032
     ++ longMessage (ascii "LIST" ++ 0 ∷ 4 ∷ 0 ∷ 0 ∷ longestPath) (ask list longestPath) 1032
     ++ longMessage (ascii "LIS2" ++ 0 ∷ 4 ∷ 0 ∷ 0 ∷ longestPath) (ask lis2 longestPath) 1032
     ++ longMessage (ascii "RECV" ++ 0 ∷ 4 ∷ 0 ∷ 0 ∷ longestPath) (ask recv longestPath) 1032
     ++ longMessage (ascii "RCV2" ++ 0 ∷ 4 ∷ 0 ∷ 0 ∷ longestPath ++ ascii "RCV2" ++ 4 ∷ 0 ∷ 0 ∷ 0 ∷ []) (rcv2 longestPath 4) 1040
+    ++ longMessage (ascii "SEND" ++ 0x0d ∷ 4 ∷ 0 ∷ 0 ∷ longestPath ++ ascii ",037777777777") (send longestPath 4294967295) 1045
     ++ longMessage (ascii "SEND" ++ 0x0b ∷ 4 ∷ 0 ∷ 0 ∷ longestPath ++ ascii ",4294967295") (send longestPath 4294967295) 1043
     ++ longMessage (ascii "SND2" ++ 0 ∷ 4 ∷ 0 ∷ 0 ∷ longestPath ++ ascii "SND2" ++ 0xa4 ∷ 0x81 ∷ 0 ∷ 0 ∷ 4 ∷ 0 ∷ 0 ∷ 0 ∷ []) (snd2 longestPath 33188 4) 1044
     ++ longMessage (ascii "SEND" ++ 6 ∷ 4 ∷ 0 ∷ 0 ∷ longestPath ++ ascii ",33188") (send longestPath 33188) 1038
@@ -81,14 +90,14 @@ paths = ascii "STAT" ∷ ascii "STA2" ∷ ascii "LIST" ∷ ascii "LIS2" ∷ asci
 
 abbrev heads : List (Fact Read)
 heads =
-    -- 1,024, 1,025 (STAT-path-1025-header-only), 1,035, 1,036
+    -- 1,024, 1,025 (STAT-path-1025-header-only), 1,037, 1,038
     headers (0 ∷ 4 ∷ 0 ∷ 0 ∷ []) more (ascii "DATA" ∷ ascii "SEND" ∷ paths)
     ++ headers (1 ∷ 4 ∷ 0 ∷ 0 ∷ []) more (ascii "DATA" ∷ ascii "SEND" ∷ [])
     ++ headers (1 ∷ 4 ∷ 0 ∷ 0 ∷ []) refused paths
-    ++ headers (0x0b ∷ 4 ∷ 0 ∷ 0 ∷ []) more (ascii "DATA" ∷ ascii "SEND" ∷ [])
-    ++ headers (0x0b ∷ 4 ∷ 0 ∷ 0 ∷ []) refused paths
-    ++ headers (0x0c ∷ 4 ∷ 0 ∷ 0 ∷ []) more (ascii "DATA" ∷ [])
-    ++ headers (0x0c ∷ 4 ∷ 0 ∷ 0 ∷ []) refused (ascii "SEND" ∷ paths)
+    ++ headers (0x0d ∷ 4 ∷ 0 ∷ 0 ∷ []) more (ascii "DATA" ∷ ascii "SEND" ∷ [])
+    ++ headers (0x0d ∷ 4 ∷ 0 ∷ 0 ∷ []) refused paths
+    ++ headers (0x0e ∷ 4 ∷ 0 ∷ 0 ∷ []) more (ascii "DATA" ∷ [])
+    ++ headers (0x0e ∷ 4 ∷ 0 ∷ 0 ∷ []) refused (ascii "SEND" ∷ paths)
     -- 65,536, 65,537, 2^24, 2^32 - 1 (STAT-path-4GiB)
     ++ headers (0 ∷ 0 ∷ 1 ∷ 0 ∷ []) more (ascii "DATA" ∷ [])
     ++ headers (0 ∷ 0 ∷ 1 ∷ 0 ∷ []) refused (ascii "SEND" ∷ paths)
@@ -119,21 +128,26 @@ turned =
     ∷ (ascii "RCV2" ++ 1 ∷ 0 ∷ 0 ∷ 0 ∷ [] ++ ascii "/RCV2" ++ 0 ∷ 0 ∷ 0 ∷ 0x80 ∷ [])
     ∷ (ascii "SND2" ++ 4 ∷ 0 ∷ 0 ∷ 0 ∷ [] ++ ascii "/w/aSND2" ++ 0xa4 ∷ 0x81 ∷ 0 ∷ 0 ∷ 3 ∷ 0 ∷ 0 ∷ 0 ∷ [])
     ∷ (ascii "SND2" ++ 4 ∷ 0 ∷ 0 ∷ 0 ∷ [] ++ ascii "/w/aSND2" ++ 0xa4 ∷ 0x81 ∷ 0 ∷ 0 ∷ 8 ∷ 0 ∷ 0 ∷ 0 ∷ [])
-    -- SEND-no-comma, SEND-octal-mode, SEND-mode-no-number; no mode, one too large
+    -- SEND-no-comma, SEND-mode-no-number; no mode, one too large; a digit that is not octal behind a 0, and a mode in octal that is too large
     ∷ (ascii "SEND" ++ 4 ∷ 0 ∷ 0 ∷ 0 ∷ [] ++ ascii "/w/a")
-    ∷ (ascii "SEND" ++ 9 ∷ 0 ∷ 0 ∷ 0 ∷ [] ++ ascii "/w/b,0755")
     ∷ (ascii "SEND" ++ 7 ∷ 0 ∷ 0 ∷ 0 ∷ [] ++ ascii "/w/c,rw")
     ∷ (ascii "SEND" ++ 3 ∷ 0 ∷ 0 ∷ 0 ∷ [] ++ ascii "/w,")
     ∷ (ascii "SEND" ++ 13 ∷ 0 ∷ 0 ∷ 0 ∷ [] ++ ascii "/w,4294967296")
+    ∷ (ascii "SEND" ++ 5 ∷ 0 ∷ 0 ∷ 0 ∷ [] ++ ascii "/w,08")
+    ∷ (ascii "SEND" ++ 15 ∷ 0 ∷ 0 ∷ 0 ∷ [] ++ ascii "/w,040000000000")
     ∷ [])
 
--- a SEND within its 1,035 whose path is over 1,024: more until it is whole, then 18, by its body; SEND-path-1025, with a path of its own (no comma)
+-- a SEND within its 1,037 whose path is over 1,024: more until it is whole, then 18, by its body; with the largest arg and a mode in decimal, and
+-- in octal; SEND-path-1025, with a path of its own (no comma)
 abbrev overlong : List (Fact Read)
 overlong =
     row (ascii "SEND" ++ 7 ∷ 4 ∷ 0 ∷ 0 ∷ 97 ∷ longestPath ++ ascii ",3318") more
     ∷ row (ascii "SEND" ++ 7 ∷ 4 ∷ 0 ∷ 0 ∷ 97 ∷ longestPath ++ ascii ",33188") refused
     ∷ row (ascii "SEND" ++ 3 ∷ 4 ∷ 0 ∷ 0 ∷ 97 ∷ longestPath ++ ascii ",0") refused
-    ∷ row (ascii "SEND" ++ 0x0b ∷ 4 ∷ 0 ∷ 0 ∷ replicate 1033 97 ++ ascii ",0") refused
+    ∷ row (ascii "SEND" ++ 0x0d ∷ 4 ∷ 0 ∷ 0 ∷ replicate 1035 97 ++ ascii ",0") refused
+    ∷ row (ascii "SEND" ++ 0x0d ∷ 4 ∷ 0 ∷ 0 ∷ replicate 1026 97 ++ ascii ",429496729") more
+    ∷ row (ascii "SEND" ++ 0x0d ∷ 4 ∷ 0 ∷ 0 ∷ replicate 1026 97 ++ ascii ",4294967295") refused
+    ∷ row (ascii "SEND" ++ 0x0d ∷ 4 ∷ 0 ∷ 0 ∷ 97 ∷ longestPath ++ ascii ",03777777777") refused
     ∷ row (ascii "SEND" ++ 1 ∷ 4 ∷ 0 ∷ 0 ∷ 97 ∷ longestPath) refused
     ∷ []
 
@@ -156,6 +170,62 @@ decimals =
     (ascii "4294967296" ∷ ascii "10000000000" ∷ [] ∷ ascii "00" ∷ ascii "01" ∷ ascii "+1" ∷ ascii "-1" ∷ ascii "1 " ∷ ascii "1/" ∷ ascii "1:" ∷ ascii "/" ∷ ascii ":"
     ∷ ascii "0x1" ∷ ascii "1a"
     ∷ [])
+
+-- ---- modes: "The request reader should take "0100644" as 33188" (document 02, [5])
+
+-- a SEND with an empty path and its mode in this text
+abbrev sending : List ℕ → List ℕ
+sending t = ascii "SEND" ++ (1 + length t) ∷ 0 ∷ 0 ∷ 0 ∷ 44 ∷ t
+
+abbrev mode : (text : List ℕ) → ℕ → Fact Read
+mode t m = row (sending t) (request (send [] m) (9 + length t))
+
+abbrev pub modes : List (Fact Read)
+modes =
+    -- in octal, "as C does": 02's example; SEND-octal-mode; SEND-symlink's 41471, "mode 0120777"; 0644 of SEND-file; small ones
+    mode (ascii "0100644") 33188
+    ∷ mode (ascii "0755") 493
+    ∷ mode (ascii "0120777") 41471
+    ∷ mode (ascii "0644") 420
+    ∷ mode (ascii "07") 7
+    ∷ mode (ascii "010") 8
+    -- zeros behind the first; eleven digits behind it, of which the largest has 32 bits
+    ∷ mode (ascii "00") 0
+    ∷ mode (ascii "000644") 420
+    ∷ mode (ascii "070007") 28679
+    ∷ mode (ascii "000000000000") 0
+    ∷ mode (ascii "000000100644") 33188
+    ∷ mode (ascii "037777777777") 4294967295
+    -- a lone 0; texts without a leading 0 are decimal
+    ∷ mode (ascii "0") 0
+    ∷ mode (ascii "7") 7
+    ∷ mode (ascii "8") 8
+    ∷ mode (ascii "644") 644
+    ∷ mode (ascii "33188") 33188
+    ∷ mode (ascii "100644") 100644
+    ∷ mode (ascii "4294967295") 4294967295
+    ∷ map (λ t. row (sending t) refused)
+    -- over 32 bits; twelve digits behind the 0
+    (ascii "040000000000" ∷ ascii "077777777777" ∷ ascii "0000000000000" ∷ ascii "0000000000001" ∷ ascii "0000000100644" ∷ ascii "4294967296"
+    -- a byte that is no octal digit behind a 0
+    ∷ ascii "08" ∷ ascii "09" ∷ ascii "0758" ∷ ascii "0855" ∷ ascii "0x1ff" ∷ ascii "0X1FF" ∷ ascii "0o7" ∷ ascii "0b1" ∷ ascii "0/" ∷ ascii "0:" ∷ ascii "0 7" ∷ ascii "07 "
+    ∷ (48 ∷ 0xb7 ∷ []) ∷ (ascii "07" ++ 0 ∷ []) ∷ (ascii "0644" ++ 10 ∷ [])
+    -- no leading 0, and no decimal
+    ∷ [] ∷ ascii "+7" ∷ ascii "-7" ∷ ascii "+07" ∷ ascii "-07" ∷ ascii " 7" ∷ ascii " 07" ∷ (9 ∷ ascii "7") ∷ (0 ∷ ascii "07") ∷ ascii "7 " ∷ ascii "7/" ∷ ascii "7:" ∷ (ascii "7" ++ 0 ∷ [])
+    ∷ ascii "1ff" ∷ ascii "ff" ∷ ascii "x7" ∷ ascii "rw"
+    ∷ [])
+
+-- a 0, any zeros, and octal digits
+abbrev octally : (zeros m : ℕ) → List ℕ → Fact (List ℕ)
+octally z m t = record { computed = octalText z m; paper = t }
+
+abbrev pub octals : List (Fact (List ℕ))
+octals =
+    octally 0 33188 (ascii "0100644")
+    ∷ octally 0 0 (ascii "00")
+    ∷ octally 2 420 (ascii "000644")
+    ∷ octally 10 0 (ascii "000000000000")
+    ∷ []
 
 -- ---- "Fifteen four-byte ids": by their bytes (MKID of file_sync_protocol.h), in the order of 000's `SyncId::ALL`; each is found by them
 

@@ -1,16 +1,16 @@
 -- The panel's request reader, in document 01's order: over a slice one request and its length, "more", or 18.
 -- Assumes nothing.
 use Prim.Native.Nat.{ℕ, suc, _+_}
-use mathlib.Core.Bool.{Bool, true, false, not, _&&_, _||_}
+use mathlib.Core.Bool.{Bool, true, false, not, _||_}
 use mathlib.Core.List.{List, [], _∷_}
 use mathlib.Core.Option.{Option, none, some}
 use lib.Dec.{eqb, leb, ltb}
 use lib.ListN.{length, take, drop}
 use Rattle.protocol.specs.Bytes.{pick, has, same, numberAt}
-use Rattle.protocol.specs.Decimal.{canonical}
 use Rattle.protocol.specs.Flags.{refusedFlags}
 use Rattle.protocol.specs.Ids.{Id, Dialect, named, STAT, STA2, LIST, LIS2, SEND, SND2, RECV, RCV2, DATA, DONE, OKAY, FAIL, DENT, DNT2, QUIT}
 use Rattle.protocol.specs.Messages.{PathOnly, stat, sta2, list, lis2, recv, Request, ask, rcv2, send, snd2, chunk, done, quit, dataMost}
+use Rattle.protocol.specs.Modes.{modeIn}
 use Rattle.protocol.specs.Records.{headerSize, idAt, argAt}
 
 pub data Read : Type 0 where
@@ -40,12 +40,12 @@ kindOf FAIL = foreign
 kindOf DENT = foreign
 kindOf DNT2 = foreign
 
--- "18 if the id is none of the host's eleven .., if arg exceeds" its limit, "or QUIT's arg isn't 0; DONE's arg is free"; "SEND's largest arg
--- becomes 1,035" (the longest path, a comma and ten digits), "that of the other path requests 1,024; DATA keeps 65,536" (document 02, [2])
+-- "18 if the id is none of the host's eleven .., if arg exceeds" its limit, "or QUIT's arg isn't 0; DONE's arg is free"; "Largest SEND arg:
+-- 1,037" (document 02, [5]: the longest path, a comma, a 0 and eleven digits), "that of the other path requests 1,024; DATA keeps 65,536" ([2])
 unfoldable pub argOk : Dialect → Kind → ℕ → Bool
 argOk d (pathOnly i) n = leb n (d .longest)
 argOk d pathFlags n = leb n (d .longest)
-argOk d pathMode n = leb n (d .longest + 11)
+argOk d pathMode n = leb n (d .longest + 13)
 argOk d pathModeFlags n = leb n (d .longest)
 argOk d bytes n = leb n dataMost
 argOk d time n = true
@@ -80,14 +80,14 @@ lastComma (b ∷ s) = commaAt b (lastComma s)
 abbrev pub unlessBad : Bool → Request → ℕ → Read
 unlessBad bad q n = pick bad refused (request q n)
 
--- SEND's text: the path up to the last comma, then the mode in canonical decimal
+-- SEND's text: the path up to the last comma, then the mode
 abbrev pub withMode : Dialect → List ℕ → ℕ → Option ℕ → Read
 withMode d p n none = refused
 withMode d p n (some m) = unlessBad (badPath d p) (send p m) n
 
 abbrev pub atComma : Dialect → List ℕ → Option ℕ → Read
 atComma d b none = refused
-atComma d b (some k) = withMode d (take k b) (headerSize + length b) (canonical (drop (suc k) b))
+atComma d b (some k) = withMode d (take k b) (headerSize + length b) (modeIn (drop (suc k) b))
 
 -- the whole message: n is its arg, b what follows the header
 unfoldable pub bodyOf : Dialect → Kind → ℕ → List ℕ → Read

@@ -9,7 +9,7 @@ use borrow.Author.Tests.{lt-ltb, le-ltb}
 use lib.ListN.{length, take, drop, getD}
 use Rattle.protocol.specs.Bytes.{numberAt, whole}
 use Rattle.protocol.specs.Ids.{Id, STAT, STA2, LIST, LIS2, SEND, SND2, RECV, RCV2, DATA, DONE, OKAY, FAIL, DENT, DNT2, QUIT, letters, Table, under, named}
-use Rattle.protocol.specs.Decimal.{canonical}
+use Rattle.protocol.specs.Modes.{modeIn}
 use Rattle.protocol.specs.Records.{headerSize, idAt, argAt, u32At}
 use Rattle.protocol.specs.Requests.{Kind, pathOnly, pathFlags, pathMode, pathModeFlags, bytes, time, bare, foreign, more, refused, kindOf, argOk, following, badPath, lastComma, atComma, withMode, bodyOf, onId, readRequest}
 use Rattle.protocol.proofs.Bytes.{whole-in}
@@ -48,7 +48,7 @@ id-bytes (a ∷ b ∷ c ∷ d ∷ s) h = refl
 comma-any : (t u : Table) (b : List ℕ) (o : Option ℕ) → atComma (under t) b o ≡ atComma (under u) b o
 unfolding badPath
 comma-any t u b none = refl
-comma-any t u b (some k) = go (canonical (drop (suc k) b))
+comma-any t u b (some k) = go (modeIn (drop (suc k) b))
   where
     go : (m : Option ℕ) → withMode (under t) (take k b) (headerSize + length b) m ≡ withMode (under u) (take k b) (headerSize + length b) m
     go none = refl

@@ -8,9 +8,9 @@ use native.Mathlib.Omega.{arith}
 use lib.ListN.{length, take, drop, length-append, length-take, length-drop}
 use lib.Seq.{take-take}
 use Rattle.protocol.specs.Bytes.{pick}
-use Rattle.protocol.specs.Decimal.{canonical}
 use Rattle.protocol.specs.Ids.{published}
 use Rattle.protocol.specs.Messages.{send}
+use Rattle.protocol.specs.Modes.{modeIn}
 use Rattle.protocol.specs.Records.{headerSize}
 use Rattle.protocol.specs.Requests.{Read, refused, request, badPath, lastComma, unlessBad, withMode, atComma}
 use Rattle.protocol.proofs.Bodies.{comma-there}
@@ -35,7 +35,7 @@ mode-tests p size (some m) = go (badPath published p)
 
 pub text-sent : (b : List ℕ) (k : ℕ) (o : Option ℕ) → lastComma b ≡ some k → modeAfter b k ≡ o → sendOf b ≡ sent (take k b) (headerSize + length b) o
 unfolding modeAfter
-text-sent b k o c e = ap (atComma published b) c ∙ mode-tests (take k b) (headerSize + length b) (canonical (drop (suc k) b)) ∙ ap (sent (take k b) (headerSize + length b)) e
+text-sent b k o c e = ap (atComma published b) c ∙ mode-tests (take k b) (headerSize + length b) (modeIn (drop (suc k) b)) ∙ ap (sent (take k b) (headerSize + length b)) e
 
 pub comma-within : (b : List ℕ) (k : ℕ) → lastComma b ≡ some k → k < length b
 comma-within b k e = omega (arith, ap length (comma-there b k e), length-append (take k b) (44 ∷ drop (suc k) b), length-take k b, length-drop (suc k) b)

@@ -7,9 +7,9 @@ use mathlib.Core.Option.{Option, none, some}
 use lib.Dec.{leb, ltb}
 use lib.ListN.{length, take, drop}
 use Rattle.protocol.specs.Bytes.{pick, same}
-use Rattle.protocol.specs.Decimal.{canonical}
 use Rattle.protocol.specs.Ids.{Dialect, under, published}
 use Rattle.protocol.specs.Flags.{refusedFlags}
+use Rattle.protocol.specs.Modes.{modeIn}
 use Rattle.protocol.specs.Records.{headerSize, idAt}
 use Rattle.protocol.specs.Requests as P
 use Rattle.protocol.specs.Requests.{Kind, argOk, badPath, wholeOf}
@@ -83,7 +83,7 @@ placeOf C.Nowhere = none
 
 -- a SEND's text: the mode behind the comma at k, where the path before it is good
 unfoldable pub modeAfter : List ℕ → ℕ → Option ℕ
-modeAfter b k = pick (badPath published (take k b)) none (canonical (drop (suc k) b))
+modeAfter b k = pick (badPath published (take k b)) none (modeIn (drop (suc k) b))
 
 -- ... all of it
 abbrev pub sendOf : List ℕ → P.Read

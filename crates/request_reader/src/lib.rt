@@ -16,7 +16,6 @@ ghost use Rattle.request.specs.Meaning.{meant};
 ghost use Rattle.request_reader.specs.Meaning as Meaning;
 ghost use Rattle.request_reader.specs.Meaning.{told, lentPart, own, onArg, partOf, wordsOf, staged, readOf, placeOf, modeAfter, sendOf};
 use decimal::Parsed;
-use decimal::parse_u32;
 use format_flags::FileMode;
 use format_flags::SyncFlags;
 use format_id::Found;
@@ -24,14 +23,16 @@ use format_id::SyncId;
 use format_number::u32_at;
 use ids::Ids;
 use request::Request;
+use request_mode::MAX_MODE;
+use request_mode::parse_mode;
 use request_path::MAX_PATH;
 use request_path::bad_path;
 
 // The most bytes in a DATA message.
 const MAX_DATA: usize = 65_536;
 
-// The longest path, a comma and ten digits.
-const MAX_SEND: usize = MAX_PATH + 11;
+// The longest path, a comma and the longest mode (document 02, [5]).
+const MAX_SEND: usize = MAX_PATH + 1 + MAX_MODE;
 
 pub enum Read {
     // The message is not all there yet.
@@ -188,7 +189,7 @@ fn mode_after(text: &[u8], k: usize) -> Parsed
         return Parsed::Invalid;
     }
     let from = k + 1;
-    parse_u32(&text[from..])
+    parse_mode(&text[from..])
 }
 
 // A SEND of `size` bytes that is all there: the path up to the last comma, then the mode.

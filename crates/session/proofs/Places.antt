@@ -3,7 +3,7 @@ use mathlib.Core.Path.{refl}
 use Rattle.protocol.specs.Bytes.{numberAt, over}
 use Rattle.protocol.specs.Calls.{messages, cut}
 use Rattle.protocol.specs.Refusal.{refusal, requestRefusal, pathRefusal, flagRefusal, featureRefusal, transferRefusal}
-use Rattle.protocol.specs.Decimal.{decimal}
+use Rattle.protocol.specs.Digits.{digits}
 use Rattle.protocol.specs.Fact.{Hold}
 use Rattle.protocol.specs.Flags.{refusedFlags, several, unknown, dryRun}
 use Rattle.protocol.specs.Messages.{bytesOfRequest, messageOf, apart, pieces}
@@ -20,7 +20,7 @@ unfolding refusal requestRefusal pathRefusal flagRefusal featureRefusal transfer
 places-hold = refl
 
 pub pieces-hold : Hold Facts.pieces × Hold Facts.closes
-unfolding refusal requestRefusal pathRefusal messages cut pieces apart bytesOfRequest messageOf decimal
+unfolding refusal requestRefusal pathRefusal messages cut pieces apart bytesOfRequest messageOf digits
 pieces-hold = (refl, refl)
 
 pub texts-hold : Hold Facts.texts

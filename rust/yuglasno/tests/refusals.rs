@@ -123,7 +123,7 @@ fn with_path(path: &[u8]) -> [(Call<'_>, Vec<u8>); 8] {
 #[test]
 fn paths_about_the_limit() {
     assert_eq!(PATH_MOST, 1024);
-    for length in [0, 1, 1023, 1024, 1025, 1026, 1035, 1036, 4096, 65_535, 65_536, 65_537, 70_000] {
+    for length in [0, 1, 1023, 1024, 1025, 1026, 1035, 1036, 1037, 1038, 4096, 65_535, 65_536, 65_537, 70_000] {
         let path = vec![b'p'; length];
         for (call, message) in with_path(&path) {
             for capacity in [40, 1023, 1024, 1031, 1032, 1033, 1040, 1042, 1043, 1044, 4096] {
@@ -144,7 +144,7 @@ fn paths_about_the_limit() {
 /// and in those that would not.
 #[test]
 fn a_nul_in_a_path_of_any_length() {
-    for length in [1, 2, 1023, 1024, 1025, 1026, 1036, 4096, 65_536, 65_537, 70_000, 1_000_000] {
+    for length in [1, 2, 1023, 1024, 1025, 1026, 1036, 1038, 4096, 65_536, 65_537, 70_000, 1_000_000] {
         let places = [0, 1, 7, 8, 1022, 1023, 1024, 1025, 4095, 65_535, 65_536, 69_999, length / 2, length - 1];
         for place in places.into_iter().filter(|place| *place < length) {
             let mut path = vec![b'p'; length];

@@ -124,7 +124,7 @@ fn the_panels_failures() {
     }
 }
 
-/// What a panel takes of a path: 1,024 bytes, in a SEND with a comma and up to ten digits behind them.
+/// What a panel takes of a path: 1,024 bytes, in our host's SEND with a comma and up to ten digits behind them.
 #[test]
 fn the_longest_path() {
     let path = format!("/jobs/{}", "p".repeat(PATH_MOST - 6));
@@ -143,21 +143,23 @@ fn the_longest_path() {
     }
 }
 
-/// The panel by itself: headers about its limits, and a SEND whose path alone is too long.
+/// The panel by itself: headers about its limits, and SENDs within theirs whose path is too long.
 #[test]
 fn the_panels_limits() {
     let text = |length: usize, mode: &str| with(b"SEND", &[&vec![b'p'; length][..], mode.as_bytes()].concat());
     let header = |id: &[u8; 4], arg: u32| words(id, &[arg]);
-    let cut_off = text(1025, ",33188")[..1038].to_vec();
-    let taken = [header(b"STAT", 1024), header(b"SND2", 1024), header(b"SEND", 1035), header(b"DATA", 65_536), cut_off];
-    for request in taken {
+    let too_long = [(1025, ",33188"), (1033, ",0"), (1025, ",03777777777"), (1026, ",4294967295"), (1035, ",0")];
+    let too_long = too_long.map(|(length, mode)| text(length, mode));
+    let cut_off = too_long.iter().map(|request| request[..request.len() - 1].to_vec());
+    let taken = [header(b"STAT", 1024), header(b"SND2", 1024), header(b"SEND", 1037), header(b"DATA", 65_536)];
+    for request in taken.into_iter().chain(cut_off) {
         let mut panel = Panel::with_jobs();
         panel.write_all(&request).unwrap();
         assert_eq!(panel.read(&mut [0; 100]).unwrap(), 0, "more is awaited behind {:?}", &request[..8]);
     }
-    let headers = [(b"STAT", 1025), (b"RCV2", 1025), (b"SND2", 1025), (b"SEND", 1036), (b"DATA", 65_537)];
+    let headers = [(b"STAT", 1025), (b"RCV2", 1025), (b"SND2", 1025), (b"SEND", 1038), (b"DATA", 65_537)];
     let headers = headers.into_iter().map(|(id, arg)| header(id, arg));
-    for request in headers.chain([text(1025, ",33188"), text(1033, ",0")]) {
+    for request in headers.chain(too_long) {
         let mut panel = Panel::with_jobs();
         panel.write_all(&request).unwrap();
         let mut told = Vec::new();

@@ -5,10 +5,10 @@ use borrow.Author.Needs.{needs}
 use lib.ListN.{length-append}
 use Rattle.protocol.specs.Bytes.{ascii}
 use Rattle.protocol.specs.Decimal.{decimal}
+use Rattle.protocol.specs.Modes.{octal}
 use Rattle.protocol.proofs.Decimal.{decimal-length}
-use Rattle.listing_lines.specs.Lines.{octal}
+use Rattle.protocol.proofs.Modes.{octal-length}
 use Rattle.listing_lines.proofs.Laws.{laid-laid}
-use Rattle.listing_lines.proofs.Octal.{octal-length}
 use Rattle.listing_lines.proofs.put_numbers.Statement.{statement}
 use Rattle.listing_lines.proofs.put_numbers.Tie as tie
 

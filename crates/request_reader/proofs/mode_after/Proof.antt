@@ -6,7 +6,7 @@ use native.Mathlib.Omega.{arith}
 use borrow.Author.Needs.{needs}
 use lib.ListN.{drop}
 use lib.Seq.{length-take-le}
-use Rattle.protocol.specs.Decimal.{canonical}
+use Rattle.protocol.specs.Modes.{modeIn}
 use Rattle.protocol.proofs.Bytes.{end-whole}
 use Rattle.request_reader.specs.Meaning.{modeAfter}
 use Rattle.request_reader.proofs.mode_after.Statement.{statement}
@@ -24,7 +24,7 @@ unfolding modeAfter
 returns-2 c =
     let a = c .before .before .before .before .before .before .args in
     let text = end-whole (a .text .now) (a .k + 1) (omega arith) ∙ ap (λ (j : ℕ). drop j (a .text .now)) (add-one (a .k)) in
-    rw (sym (c .before .before .before .bad-path .ensures) ∙ c .before .before .if1 .left) (c .parse-u32 .ensures ∙ ap canonical text)
+    rw (sym (c .before .before .before .bad-path .ensures) ∙ c .before .before .if1 .left) (c .parse-mode .ensures ∙ ap modeIn text)
 
 pub mode-after-spec : {M : Type 1} → statement M
 mode-after-spec =

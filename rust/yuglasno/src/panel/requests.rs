@@ -19,12 +19,25 @@ pub(super) enum Request {
     Quit,
 }
 
-/// The largest arg of a SEND: the longest path, a comma and ten digits. AOSP's service takes [`PATH_MOST`] bytes in all.
-const SEND_MOST: usize = PATH_MOST + 11;
+/// The largest arg of a SEND: the longest path, a comma, a 0 and eleven octal digits. AOSP's service takes [`PATH_MOST`] bytes in all.
+const SEND_MOST: usize = PATH_MOST + 13;
 const TOO_LONG: &str = "path too long";
 
 fn number(bytes: &[u8]) -> u32 {
     u32::from_le_bytes(bytes.try_into().expect("four bytes"))
+}
+
+/// The mode in a SEND: a 0 and one to eleven octal digits, or decimal without a leading zero; under 2^32 in both.
+fn mode(text: &[u8]) -> Option<FileMode> {
+    let (digits, base) = match text {
+        [b'0', octal @ ..] if !octal.is_empty() => (octal, 8),
+        _ => (text, 10),
+    };
+    // `from_str_radix` would take a plus, and any number of zeros
+    if digits.len() > 11 || !digits.iter().all(u8::is_ascii_digit) {
+        return None;
+    }
+    u32::from_str_radix(std::str::from_utf8(digits).ok()?, base).ok().map(FileMode)
 }
 
 /// The first request of the bytes and its length; none where it is not whole; or the text of a FAIL.
@@ -77,8 +90,7 @@ fn request(id: Id, body: &[u8], behind: &[u8]) -> Result<Request, String> {
             if comma > PATH_MOST {
                 return Err(TOO_LONG.into());
             }
-            let mode = std::str::from_utf8(&body[comma + 1..]).ok().and_then(|digits| digits.parse().ok());
-            let mode = FileMode(mode.ok_or("bad mode")?);
+            let mode = mode(&body[comma + 1..]).ok_or("bad mode")?;
             Request::Send { path: body[..comma].to_vec(), mode, keep: true }
         }
         Id::Snd2 => {
