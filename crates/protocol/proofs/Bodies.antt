@@ -97,6 +97,10 @@ comma-there (x ∷ b) k e = go (comma-there b) (lastComma b) refl e
     go rest (some j) c f = rw (← (Option·some-injective (suc j) k f)) (ap (λ (l : List ℕ). x ∷ l) (rest j c))
     go rest none c f = first (eqb x 44) refl f
 
+-- how long a SEND's text is
+pub text-size : (p t : List ℕ) → length (p ++ 44 ∷ t) ≡ length p + 1 + length t
+text-size p t = omega (arith, length-append p (44 ∷ t))
+
 -- What an answer for a whole message of id i and arg n says of b, which follows its header: it is never "more"; it is 18, or the
 -- request that has these bytes, with the message's size.
 abbrev pub Means : Dialect → Id → ℕ → List ℕ → Read → Type 0
@@ -141,10 +145,10 @@ module _ (d : Dialect) where
   text-form : (p t b : List ℕ) (m n : ℕ) → p ++ 44 ∷ t ≡ b → length b ≡ n → Written t m → Form d (send p m) (d .bytes SEND ++ word n ++ b)
   unfolding bytesOfRequest messageOf
   text-form p t b m n there e (inl w) =
-      let size : length p + 1 + length (decimal m) ≡ n = omega (arith, length-append p (44 ∷ t), ap length there, ap length w) in
+      let size : length p + 1 + length (decimal m) ≡ n = omega (arith, text-size p t, ap length there, ap length w) in
       by-host (rw (append-nil (decimal m), size, ← w, there))
   text-form p t b m n there e (inr w) =
-      let size : length p + 1 + length t ≡ n = omega (arith, length-append p (44 ∷ t), ap length there) in
+      let size : length p + 1 + length t ≡ n = omega (arith, text-size p t, ap length there) in
       in-octal p t m refl w (rw (size, there))
 
   means-mode : (n : ℕ) (b : List ℕ) → length b ≡ n → Means d SEND n b (bodyOf d pathMode n b)
@@ -205,20 +209,17 @@ pub record Reads (d : Dialect) (k : Kind) (n : ℕ) (b : List ℕ) (q : Request)
 
 -- a SEND whose mode stands in a text without a comma
 module _ (d : Dialect) (p t : List ℕ) (clear : has 44 t ≡ false) where
-  text-size : length (p ++ 44 ∷ t) ≡ length p + 1 + length t
-  text-size = omega (arith, length-append p (44 ∷ t))
-
   pub mode-body : bodyOf d pathMode (length p + 1 + length t) (p ++ 44 ∷ t) ≡ withMode d p (headerSize + (length p + 1 + length t)) (modeIn t)
   unfolding bodyOf
   mode-body =
       let text : drop (suc (length p)) (p ++ 44 ∷ t) ≡ t = ap (λ (k : ℕ). drop k (p ++ 44 ∷ t)) (sym (add-one (length p))) ∙ drop-append-add p (44 ∷ t) 1 in
-      rw (comma-last p t (comma-none t clear), take-append-seam p (44 ∷ t), text, text-size)
+      rw (comma-last p t (comma-none t clear), take-append-seam p (44 ∷ t), text, text-size p t)
 
   reads-mode : (m : ℕ) → PathOk d p → length p + 1 + length t < 0x1_0000_0000 → length p + 1 + length t ≤ d .longest + 13 → modeIn t ≡ some m
       → Reads d pathMode (length p + 1 + length t) (p ++ 44 ∷ t) (send p m)
   unfolding argOk following
   reads-mode m path fits short mode =
-      record { fits = fits; ok = omega (arith, le-leb); follows = sym text-size; reads = mode-body ∙ rw (mode, path-good d p path) }
+      record { fits = fits; ok = omega (arith, le-leb); follows = sym (text-size p t); reads = mode-body ∙ rw (mode, path-good d p path) }
 
 module _ (d : Dialect) (sound : Sound d) (small : d .longest + 11 < 0x1_0000_0000) where
   reads-path : (i : PathOnly) (p : List ℕ) → PathOk d p → Reads d (pathOnly i) (length p) p (ask i p)

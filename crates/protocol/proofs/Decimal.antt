@@ -1,9 +1,9 @@
--- Laws of `specs/Decimal.antt`: a number's decimal digits one by one, and that `canonical` reads them back and nothing else. Assumes nothing.
-use mathlib.Core.List.{List, [], _∷_, _++_}
+-- Laws of `specs/Decimal.antt`: how many digits a decimal has, and that `canonical` reads them back and nothing else. Assumes nothing.
+use mathlib.Core.List.{List, [], _∷_}
 use mathlib.Core.Option.{none, some, Option·none-ne-some}
 use mathlib.Core.Path.{_≡_, refl, _∙_}
 use mathlib.Core.Bool.{false}
-use Prim.Native.Nat.{ℕ, _+_, _/_, _%_, _≤_, _<_}
+use Prim.Native.Nat.{ℕ, _≤_, _<_}
 use native.Mathlib.Decide.{decLt, ℕ-discrete}
 use native.Mathlib.Omega.{arith}
 use borrow.Author.Tests.{eq-eqb, ne-eqb}
@@ -17,18 +17,6 @@ use Rattle.protocol.proofs.Digits as Digits
 
 ten : 2 ≤ 10
 ten = omega arith
-
-pub decimal-small : (n : ℕ) → n < 10 → decimal n ≡ (48 + n) ∷ []
-decimal-small = Digits.digits-small 10 ten
-
-pub decimal-step : (n : ℕ) → 10 ≤ n → decimal n ≡ decimal (n / 10) ++ (48 + n % 10) ∷ []
-decimal-step = Digits.digits-step 10 ten
-
-pub length-small : (n : ℕ) → n < 10 → length (decimal n) ≡ 1
-length-small = Digits.length-small 10 ten
-
-pub length-step : (n : ℕ) → 10 ≤ n → length (decimal n) ≡ length (decimal (n / 10)) + 1
-length-step = Digits.length-step 10 ten
 
 pub decimal-nonempty : (n : ℕ) → 0 < length (decimal n)
 decimal-nonempty = Digits.digits-nonempty 10 ten
@@ -66,7 +54,7 @@ decimal-leading n h e = go (decLt 0 n)
   where
     go : Dec (0 < n) → ⊥
     go (yes p) = omega (arith, Digits.digits-first 10 ten n p)
-    go (no z) = omega (arith, length-small n (omega arith))
+    go (no z) = omega (arith, Digits.length-small 10 ten n (omega arith))
 
 -- what was written is read back
 pub canonical-decimal : (n : ℕ) → n < 0x1_0000_0000 → canonical (decimal n) ≡ some n

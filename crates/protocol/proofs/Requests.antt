@@ -19,7 +19,7 @@ use Rattle.protocol.specs.Messages.{stat, sta2, list, lis2, recv, Reques
 use Rattle.protocol.specs.Modes.{modeIn, InOctal}
 use Rattle.protocol.specs.Records.{headerSize, idAt, argAt}
 use Rattle.protocol.specs.Requests.{Read, more, refused, request, kindOf, argOk, following, withMode, bodyOf, onId, readRequest}
-use Rattle.protocol.proofs.Bodies.{Taken, pick-cases, path-good, mode-body, Reads, reads, Means, means}
+use Rattle.protocol.proofs.Bodies.{Taken, pick-cases, path-good, text-size, mode-body, Reads, reads, Means, means}
 use Rattle.protocol.proofs.Decimal.{canonical-decimal}
 use Rattle.protocol.proofs.Messages.{kind-path}
 use Rattle.protocol.proofs.Modes.{octal-text, octal-mode, octal-canonical}
@@ -89,7 +89,7 @@ module _ (d : Dialect) (sound : Sound d) (small : d .longest + 13 < 0x1_0000_000
   mode-read clear short rest =
       let n = length p + 1 + length text in
       let b = p ++ 44 ∷ text in
-      let all : length b ≡ n = omega (arith, length-append p (44 ∷ text)) in
+      let all : length b ≡ n = text-size p text in
       body-at d sound SEND n b rest (omega arith) (omega (arith, le-leb)) (sym all) ∙ mode-body d p text clear ∙ rw (size d sound SEND n b, all)
 
   -- ... in octal (document 02, [5])

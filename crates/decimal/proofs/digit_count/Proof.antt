@@ -6,7 +6,8 @@ use native.Mathlib.Omega.{arith}
 use borrow.Author.Needs.{needs}
 use lib.ListN.{length}
 use Rattle.protocol.specs.Decimal.{decimal}
-use Rattle.protocol.proofs.Decimal.{length-small, length-step, decimal-length}
+use Rattle.protocol.proofs.Decimal.{decimal-length}
+use Rattle.protocol.proofs.Digits.{length-small, length-step}
 use Rattle.decimal.proofs.digit_count.Statement.{statement}
 use Rattle.decimal.proofs.digit_count.Tie as tie
 
@@ -26,10 +27,10 @@ loop-less : tie.Need-loop-less Inv-loop μ-loop
 loop-less c = search needs
 
 loop-again : tie.Need-loop-again Inv-loop μ-loop
-loop-again c = omega (arith, length-step (c .before .loop .m) (c .loop-test .taken))
+loop-again c = omega (arith, length-step 10 (omega arith) (c .before .loop .m) (c .loop-test .taken))
 
 returns : tie.Need-returns Inv-loop μ-loop
-returns c = omega (arith, length-small (c .before .loop .m) (omega arith))
+returns c = omega (arith, length-small 10 (omega arith) (c .before .loop .m) (omega arith))
 
 pub digit-count-spec : {M : Type 1} → statement M
 digit-count-spec = tie.close (tie.spec Inv-loop μ-loop loop-holds add-count loop-less loop-again returns)

@@ -9,7 +9,8 @@ use borrow.Author.Needs.{needs}
 use lib.ListN.{length, length-set}
 use Rattle.protocol.specs.Bytes.{over}
 use Rattle.protocol.specs.Decimal.{decimal}
-use Rattle.protocol.proofs.Decimal.{decimal-small, decimal-step, length-small, length-step, decimal-nonempty}
+use Rattle.protocol.proofs.Decimal.{decimal-nonempty}
+use Rattle.protocol.proofs.Digits.{digits-small, digits-step, length-small, length-step}
 use Rattle.decimal.proofs.Laws.{over-last}
 use Rattle.decimal.proofs.put_digits.Statement.{statement}
 use Rattle.decimal.proofs.put_digits.Tie as tie
@@ -30,16 +31,16 @@ loop-holds c = let h = decimal-nonempty (c .args .n) in (omega arith, omega arit
 sub-at-2 : tie.Need-sub-at-2 Inv-loop μ-loop
 sub-at-2 c =
     let m = c .before .loop .m in
-    omega (arith, length-step m (c .loop-test .taken), decimal-nonempty (m / 10))
+    omega (arith, length-step 10 (omega arith) m (c .loop-test .taken), decimal-nonempty (m / 10))
 
 loop-again : tie.Need-loop-again Inv-loop μ-loop
 loop-again c =
     let l = c .before .loop in
     let n = decimal-nonempty (l .m / 10) in
-    let s = length-step (l .m) (c .loop-test .taken) in (
+    let s = length-step 10 (omega arith) (l .m) (c .loop-test .taken) in (
       omega arith,
       simp length-set (omega arith),
-      over-last (l .out) (decimal (l .m / 10)) _ (l .at) (omega arith) (l .inv .1) ∙ rw (decimal-step (l .m) (c .loop-test .taken)) at (l .inv .2),
+      over-last (l .out) (decimal (l .m / 10)) _ (l .at) (omega arith) (l .inv .1) ∙ rw (digits-step 10 (omega arith) (l .m) (c .loop-test .taken)) at (l .inv .2),
       simp length-set (l .inv .3),
     )
 
@@ -47,8 +48,8 @@ returns : tie.Need-returns Inv-loop μ-loop
 unfolding over
 returns c =
     let l = c .before .loop in
-    let s = length-small (l .m) (c .loop-test .left) in
-    over-last (l .out) [] _ (l .at) (omega arith) (l .inv .1) ∙ rw (decimal-small (l .m) (c .loop-test .left)) at (l .inv .2)
+    let s = length-small 10 (omega arith) (l .m) (c .loop-test .left) in
+    over-last (l .out) [] _ (l .at) (omega arith) (l .inv .1) ∙ rw (digits-small 10 (omega arith) (l .m) (c .loop-test .left)) at (l .inv .2)
 
 pub put-digits-spec : {M : Type 1} → statement M
 put-digits-spec =
