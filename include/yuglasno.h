@@ -1,4 +1,5 @@
-/* The seven functions of libexports.a: the host's side of ADB's sync: service (stat, list, pull, push), without I/O, a heap or a clock.
+/* The twelve functions of libexports.a: the host's side of ADB's sync: service (stat, list, pull, push), without I/O, a heap or a clock;
+ * and an index of a listing's entries by their times.
  *
  * A session lives in a record and two buffers of the host's. The host starts a call, does what the library asks (read, write, close),
  * reports what came of it, and so on until the call is answered. examples/pull.c is a whole program.
@@ -12,15 +13,20 @@
  *   msg     the message buffer, for the text of a FAIL: at least as long as rx
  *   lent    the path or the data of the call
  *   out     takes the reply: YUGLASNO_REPLY bytes at least
+ *   slots   an index: YUGLASNO_SLOTS bytes, written by yuglasno_index_open and yuglasno_index_add and by no one else
+ *   area    takes the names of an index, end to end from its front, YUGLASNO_INDEX_NAMES bytes of them at most; what stands behind them is
+ *           left alone
+ *   reply   the out of a session's call, as the library left it
  * A slice crosses as address and length. It needs no alignment; NULL with length 0 is fine. Slices must not overlap. The library keeps
  * no address: it reads and writes inside the slices, and only until it returns. rx and msg have the same lengths in every call and report
  * of a session; from a call's start to its answer lent has the same length and the same bytes. The host alters rec nowhere, and rx only
- * in the window that it is to read into. No address is kept, so record and buffers may be moved as plain bytes between two calls.
+ * in the window that it is to read into. area has the same length from the opening of its index on, and the host alters neither slots nor
+ * the names in it. No address is kept, so record, buffers, slots and area may be moved as plain bytes between two calls.
  * Each function answers every input; two threads may be in the library at once, each with slices of its own.
  *
  * What is returned: two forms of number
- *   yuglasno_settings, yuglasno_ids, yuglasno_open   the answer's number alone
- *   the others      what + 256 * number: yuglasno_what() says what is asked (YUGLASNO_WHAT_..), and of WHAT_TOLD yuglasno_answer() is the
+ *   yuglasno_settings, yuglasno_ids, yuglasno_open and the five of the index   the answer's number alone
+ *   the other four  what + 256 * number: yuglasno_what() says what is asked (YUGLASNO_WHAT_..), and of WHAT_TOLD yuglasno_answer() is the
  *                   answer's number (YUGLASNO_ANSWER_..). Where something is asked, number is 0 and means nothing.
  *
  * What stands in out: words of eight bytes, the lowest first; yuglasno_word() reads them
@@ -41,6 +47,11 @@
  *   OTHER_LENGTH      out is left alone where it is too short itself, or where rec holds no session
  * A part stands until the next call.
  *
+ * What a query of an index puts in out: words too, and no other byte
+ *   yuglasno_index_between, yuglasno_index_latest   the words YUGLASNO_SPAN_..: how many entries, and the rank of the first. Ranks count
+ *                                                   from 0, in time order, equal times in listing order
+ *   yuglasno_index_entry                            the words YUGLASNO_ITEM_..; all 0 where no entry has that rank
+ *
  * What of the record may be read: how many bytes a read still wants, by yuglasno_wanted(). All else in it is the library's own. */
 #ifndef YUGLASNO_H
 #define YUGLASNO_H
@@ -58,6 +69,9 @@ extern "C" {
 #define YUGLASNO_DATA_MOST 65536 /* the most bytes in one DATA message */
 #define YUGLASNO_CAPACITY 65544 /* bytes of a receive buffer that takes every DATA message, with its header */
 #define YUGLASNO_PATH_MOST 1024 /* the most bytes of a path */
+#define YUGLASNO_SLOTS 65568    /* bytes of an index's slots */
+#define YUGLASNO_INDEX_ENTRIES 4096 /* the most entries of an index */
+#define YUGLASNO_INDEX_NAMES 65536 /* the most bytes of an index's names, together */
 
 /* The calls. lent is the path, or DATA's data; NEXT_ENTRY and the other calls without either may be lent anything, such as NULL.
  * a is the mode of a push or SEND_DONE's time, b the flags of a v2 transfer; where a call has neither they are not looked at. */
@@ -101,14 +115,14 @@ enum {
   YUGLASNO_FAULT_ERROR = 1   /* another fault, with a code of the host's own */
 };
 
-/* The answers. 1 to 11, 22 and 23 change nothing: record, settings, buffers and a pending call are as before. Where several apply, the
- * first of 1, 2, then 3, 6, 4, 5, 8, 7, 9, 10 is answered; of a report 3, 6, 5, 11. Of a table of ids it is 22, then 23, behind 1 to 3.
- * docs/ANSWERS.md says what to do. */
+/* The answers. 1 to 11, 19, 22 and 23 change nothing: record, settings, buffers, slots, area and a pending call are as before. Where
+ * several apply, the first of 1, 2, then 3, 6, 4, 5, 8, 7, 9, 10 is answered; of a report 3, 6, 5, 11. Of a table of ids it is 22, then 23,
+ * behind 1 to 3. Of an index it is 3, then 19. docs/ANSWERS.md says what to do. */
 enum {
   YUGLASNO_ANSWER_OK = 0,
   YUGLASNO_ANSWER_SMALL_BUFFER = 1,         /* rx is under 8 bytes */
   YUGLASNO_ANSWER_SHORT_MESSAGE_BUFFER = 2, /* msg is shorter than rx */
-  YUGLASNO_ANSWER_OTHER_LENGTH = 3,         /* a slice has another length than it must have, or rec holds no session */
+  YUGLASNO_ANSWER_OTHER_LENGTH = 3,         /* a slice has another length than it must have, or rec holds no session, or slots no index */
   YUGLASNO_ANSWER_PENDING = 4,              /* a call while one is pending */
   YUGLASNO_ANSWER_NOT_AWAITED = 5,          /* a report that is not awaited, or no such call */
   YUGLASNO_ANSWER_ENDED = 6,                /* a call or report after quit */
@@ -124,6 +138,7 @@ enum {
   YUGLASNO_ANSWER_ERRNO = 16,               /* the panel's errno in a v2 stat: word 3 */
   YUGLASNO_ANSWER_TOO_LARGE = 17,           /* a reply that rx can't hold */
   YUGLASNO_ANSWER_BAD_REQUEST = 18,         /* of the panel's request reader, which is not exported: no function here answers it */
+  YUGLASNO_ANSWER_INDEX_FULL = 19,          /* slots or name bytes run out: no room for the entry */
   YUGLASNO_ANSWER_BAD_IDS = 22,             /* a file, or the settings of an opening, is no table of ids */
   YUGLASNO_ANSWER_EQUAL_IDS = 23            /* two ids of the table are equal */
 };
@@ -174,6 +189,17 @@ enum {
   YUGLASNO_AT_V2_CTIME = 13
 };
 
+/* Where a query of an index has its words. */
+enum {
+  YUGLASNO_SPAN_MANY = 0,  /* how many entries; of the latest 0 or 1 */
+  YUGLASNO_SPAN_FIRST = 1, /* the rank of the first */
+  YUGLASNO_ITEM_THERE = 0, /* 1, or 0 where no entry has that rank */
+  YUGLASNO_ITEM_START = 1, /* where its name starts in area */
+  YUGLASNO_ITEM_LENGTH = 2,
+  YUGLASNO_ITEM_NUMBER = 3, /* how many entries the index held before it: its place in the listing, where none was turned away */
+  YUGLASNO_ITEM_MTIME = 4   /* signed: (int64_t) of the word */
+};
+
 /* Makes settings the published ones: the fifteen ids of the public documents, four bytes each, in the order STAT, STA2, LIST, LIS2, SEND,
  * SND2, RECV, RCV2, DATA, DONE, OKAY, FAIL, DENT, DNT2, QUIT, then zeros. OK, or OTHER_LENGTH. */
 uint32_t yuglasno_settings(uint8_t *settings, size_t settings_len);
@@ -205,7 +231,28 @@ uint32_t yuglasno_wrote(uint8_t *rec, size_t rec_len, uint8_t *rx, size_t rx_len
 uint32_t yuglasno_fault(uint8_t *rec, size_t rec_len, uint8_t *rx, size_t rx_len, uint8_t *msg, size_t msg_len,
                         const uint8_t *lent, size_t lent_len, uint32_t kind, uint32_t code, uint8_t *out, size_t out_len);
 
-/* What is asked, of a number that one of the last four functions returned. */
+/* Makes slots an index that holds nothing, for an area of this length, which may be any. OK, or OTHER_LENGTH for slots. */
+uint32_t yuglasno_index_open(uint8_t *slots, size_t slots_len, size_t area);
+
+/* Adds the entry that a session's call was answered with: told is what yuglasno_start or a report returned, reply its out, rx the receive
+ * buffer as it was left. A reply that is no entry adds nothing and is OK, so that every reply of a listing may be handed over, once each. An
+ * entry of v2 with an errno is one too. OTHER_LENGTH for slots that are no index of an area of this length, or a reply that no session
+ * wrote; INDEX_FULL where YUGLASNO_INDEX_ENTRIES are held, or the name does not fit behind the others. The session is not touched. */
+uint32_t yuglasno_index_add(uint8_t *slots, size_t slots_len, uint8_t *area, size_t area_len, uint32_t told, const uint8_t *reply,
+                            size_t reply_len, const uint8_t *rx, size_t rx_len);
+
+/* The entries with an mtime from `from` to `to`, both included. Of the area a query is told the length alone. OK, or OTHER_LENGTH, of each of
+ * the three. */
+uint32_t yuglasno_index_between(const uint8_t *slots, size_t slots_len, size_t area, int64_t from, int64_t to, uint8_t *out,
+                                size_t out_len);
+
+/* The latest entry at or before a time; of equal times the first listed. */
+uint32_t yuglasno_index_latest(const uint8_t *slots, size_t slots_len, size_t area, int64_t time, uint8_t *out, size_t out_len);
+
+/* The entry of a rank. OTHER_LENGTH also where the host altered slots so that the name is none of those in the area. */
+uint32_t yuglasno_index_entry(const uint8_t *slots, size_t slots_len, size_t area, size_t rank, uint8_t *out, size_t out_len);
+
+/* What is asked, of a number that yuglasno_start or a report returned. */
 static inline uint32_t yuglasno_what(uint32_t returned) { return returned & 255; }
 
 /* The answer's number, of one whose what is YUGLASNO_WHAT_TOLD. */

@@ -68,15 +68,18 @@ library() {
   fi
 }
 
-# The times of five processes: of each row the one with the middle ratio, and the least and the greatest ratio.
+# times BESIDE UNIT LAST WORDS..: the table that `oracle bench WORDS` prints, by five processes: of each row the one with the middle ratio,
+# and the least and the greatest ratio
 times() {
-  local i
-  for i in 1 2 3 4 5; do $oracle bench; done | awk -F' *[|] *' '
+  local beside=$1 unit=$2 last=$3 i
+  shift 3
+  for i in 1 2 3 4 5; do $oracle bench "$@"; done | awk -F' *[|] *' -v beside="$beside" -v unit="$unit" -v last="$last" '
     $2 == "work" || $2 ~ /^-/ {next}
     !($2 in seen) {order[++rows] = $2}
     {line[$2, ++seen[$2]] = $3 " " $4 " " $5 " " $6}
     END {
-      print "| work | 000, ms | here, ms | here / 000 | least | greatest | channel alone, ms |\n|---|---|---|---|---|---|---|"
+      printf "| work | %s, %s | here, %s | here / %s | least | greatest | %s, %s |\n", beside, unit, unit, beside, last, unit
+      print "|---|---|---|---|---|---|---|"
       for (r = 1; r <= rows; r++) {
         n = seen[order[r]]
         for (i = 1; i <= n; i++) {split(line[order[r], i], c, " "); ratio[i] = c[3] + 0; of[i] = i}
@@ -128,7 +131,23 @@ the greatest ratio (the buffers lie elsewhere in each process). On busy cores th
 runs of this script, so these are worth something only from idle cores; the instructions repeat exactly.
 
 TEXT
-  times
+  times 000 ms 'channel alone'
+  cat <<'TEXT'
+
+## The index
+
+000 has no index: beside it stands a sorted `Vec` of times, starts and lengths, with the names in a buffer of their own, as a program in
+Rust would write it (`partition_point` and `insert`). Both are handed the same replies and asked the same, at 4,096 entries with names
+of 12 bytes. The `Vec` is searched by halves; the slots are gone through from the back, one by one. The last column is what 4,096 entries
+in any order, and one query, may take at most: 20 ms and 0.1 ms. Times as above, but in microseconds.
+
+* fill_ORDER: 4,096 entries in this order of their times, into an empty index.
+* between_all: from the earliest time to the latest: the slots are gone through to their front, once.
+* between_none, latest_earliest: a time before the earliest, and the latest at the time of the earliest: to their front twice.
+* between_all_read: the first query, then each of its 4,096 entries with its name.
+
+TEXT
+  times 'sorted Vec' µs 'at most' index
   cat <<'TEXT'
 
 ## The library

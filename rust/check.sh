@@ -55,9 +55,9 @@ else
 fi
 RUSTDOCFLAGS="-D warnings" count "documentation" cargo doc --offline -q -p yuglasno --lib --no-deps
 count "build of the boundary program" cargo build --offline -q --release -p yuglasno --bin boundary
-count "exported functions under any input" timeout 300 target/release/boundary 200000 1
+count "exported functions under any input" timeout 300 target/release/boundary 300000 1
 if command -v valgrind >/dev/null; then
-  count "the same under valgrind" timeout 600 valgrind --error-exitcode=1 -q target/release/boundary 20000 2
+  count "the same under valgrind" timeout 600 valgrind --error-exitcode=1 -q target/release/boundary 30000 2
 else
   echo "rust: valgrind is not there: the run under it is left out"
 fi

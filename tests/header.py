@@ -12,14 +12,15 @@ from tables import in_definitions, in_header, in_page, in_rust
 ROOT = pathlib.Path(__file__).resolve().parent.parent
 OTHERS = {'rust': in_rust, 'definitions': in_definitions, 'page of answers': in_page}
 # the page has these alone; the others have every table of the header
-ON_PAGE = {'answers', 'order', 'order of a report', 'order of a table'}
+ON_PAGE = {'answers', 'order', 'order of a report', 'order of a table', 'order of an index'}
 # what a table has no name for: the crate's errors are not 0, and it reads no requests; the definitions have no buffer of that length and
 # no name for no flags, and to them a fault of any kind but 0 is an error; where a host reads an answer, a refusal is any other number, and
-# the close any other what
+# the close any other what; the crate asks for no rank that is not there
 REFUSED = set(in_definitions.REFUSALS)
 WITHOUT = {
     ('rust', 'answers'): {'OK', 'BAD_REQUEST'},
     ('rust', 'kinds'): {'OTHER'},
+    ('rust', 'words of an item'): {'THERE'},
     ('definitions', 'lengths'): {'CAPACITY'},
     ('definitions', 'flags'): {'NONE'},
     ('definitions', 'faults'): {'ERROR'},
@@ -49,6 +50,12 @@ EDITS = [
     ('page of answers', 'it is 22, then 23', 'it is 23, then 22'),
     ('definitions', '(pick (twoEqual vs) (refused equalValues) (ids vs)) (refused badForm)',
      '(pick (twoEqual vs) (refused badForm) (ids vs)) (refused equalValues)'),
+    ('header', 'it is 3, then 19', 'it is 19, then 3'),
+    ('rust', 'it is 3, then 19', 'it is 19, then 3'),
+    ('page of answers', 'it is 3, then 19', 'it is 19, then 3'),
+    # a time has a sign
+    ('header', 'int64_t from, int64_t to', 'uint32_t from, int64_t to'),
+    ('rust', 'from: i64, to: i64, out: *mut u8', 'from: i64, to: u32, out: *mut u8'),
 ]
 
 

@@ -1,4 +1,4 @@
-"""A host over the seven functions in Python, by the numbers of include/yuglasno.h: calls over bytes that are given beforehand."""
+"""A host over the exported functions in Python, by the numbers of include/yuglasno.h: calls over bytes that are given beforehand."""
 import ctypes
 import os
 import pathlib
@@ -26,6 +26,7 @@ def loaded(folder):
     subprocess.run(['cc', '-shared', '-o', shared, '-Wl,--whole-archive', LIBRARY, '-Wl,--no-whole-archive'], check=True)
     library = ctypes.CDLL(str(shared))
     kinds = {'mut u8': ctypes.POINTER(ctypes.c_char), 'const u8': ctypes.c_char_p, 'usize': ctypes.c_size_t, 'u32': ctypes.c_uint32}
+    kinds['i64'] = ctypes.c_int64
     for name, parameters in TABLES['functions'].items():
         function = getattr(library, name)
         function.restype, function.argtypes = ctypes.c_uint32, [kinds[p.rsplit(' ', 1)[0]] for p in parameters]

@@ -1,6 +1,6 @@
 /* What yuglasno.h says, tried: NULL with length 0, slices at odd addresses, the two forms of a returned number, refusals that change
- * nothing, ids from a file, the reply's layout by kind, what a read still wants. Its last line is 'N passed, M failed'. Also compiled as
- * C++. */
+ * nothing, ids from a file, the reply's layout by kind, what a read still wants, an index beside a session. Its last line is
+ * 'N passed, M failed'. Also compiled as C++. */
 #include "yuglasno.h"
 
 #include <stdio.h>
@@ -258,6 +258,89 @@ static void quitting(void) {
   CHECK(yuglasno_start(SESSION, NULL, 0, YUGLASNO_CALL_QUIT, 0, 0, REPLY) == YUGLASNO_ANSWER_ENDED << 8);
 }
 
+/* An index, whose names have little room. */
+enum { AREA = 5 };
+static uint8_t slotted[YUGLASNO_SLOTS + ODD], named[AREA + 1 + ODD];
+static uint8_t *const slots = slotted + ODD, *const area = named + ODD;
+
+#define SLOTS slots, YUGLASNO_SLOTS
+
+/* Hands over the reply that stands in out: what is answered, and whether slots and area are as they were. */
+static uint32_t add(uint32_t told, size_t area_len, size_t reply_len, int *same) {
+  static uint8_t slots_before[sizeof slotted], area_before[sizeof named];
+  memcpy(slots_before, slotted, sizeof slotted);
+  memcpy(area_before, named, sizeof named);
+  uint32_t answer = yuglasno_index_add(SLOTS, area, area_len, told, out, reply_len, rx, CAPACITY);
+  *same = memcmp(slots_before, slotted, sizeof slotted) == 0 && memcmp(area_before, named, sizeof named) == 0;
+  return answer;
+}
+
+static int added(void) {
+  int same;
+  return add(YUGLASNO_WHAT_TOLD, AREA, YUGLASNO_REPLY, &same) == YUGLASNO_ANSWER_OK && !same;
+}
+
+static int left_alone(uint32_t answer, uint32_t told, size_t area_len, size_t reply_len) {
+  int same;
+  return add(told, area_len, reply_len, &same) == answer && same;
+}
+
+static int no_entry(uint32_t told) { return left_alone(YUGLASNO_ANSWER_OK, told, AREA, YUGLASNO_REPLY); }
+
+static void index_opening(void) {
+  memset(slotted, 0xee, sizeof slotted);
+  memset(named, 0xee, sizeof named);
+  CHECK(yuglasno_index_open(NULL, 0, AREA) == YUGLASNO_ANSWER_OTHER_LENGTH);
+  CHECK(yuglasno_index_open(slots, YUGLASNO_SLOTS - 1, AREA) == YUGLASNO_ANSWER_OTHER_LENGTH && slots[0] == 0xee);
+  CHECK(yuglasno_index_between(SLOTS, AREA, 0, 9, REPLY) == YUGLASNO_ANSWER_OTHER_LENGTH);
+  CHECK(yuglasno_index_open(SLOTS, AREA) == YUGLASNO_ANSWER_OK);
+  CHECK(yuglasno_index_between(SLOTS, AREA, INT64_MIN, INT64_MAX, REPLY) == YUGLASNO_ANSWER_OK && word(YUGLASNO_SPAN_MANY) == 0);
+}
+
+/* Entries of both versions, one of them with an errno; replies that are none; and room that runs out. */
+static void index_filling(size_t cut) {
+  open_session(ALL);
+  CHECK(HEARD(YUGLASNO_CALL_NEXT_ENTRY, "", "DENT" STAT1 "\1\0\0\0a", cut) == YUGLASNO_ANSWER_OK && added());
+  CHECK(HEARD(YUGLASNO_CALL_NEXT_ENTRY_V2, "", "DNT2" V2("\15") "\2\0\0\0bc", cut) == YUGLASNO_ANSWER_OK && added());
+  CHECK(HEARD(YUGLASNO_CALL_STAT, PATH, "STAT" STAT1, cut) == YUGLASNO_ANSWER_OK && no_entry(YUGLASNO_WHAT_TOLD));
+  CHECK(HEARD(YUGLASNO_CALL_RECV_NEXT, "", "DATA\1\0\0\0x", cut) == YUGLASNO_ANSWER_OK && no_entry(YUGLASNO_WHAT_TOLD));
+  CHECK(HEARD(YUGLASNO_CALL_STAT, PATH, "FAIL\2\0\0\0no", cut) == YUGLASNO_ANSWER_FAIL && no_entry(YUGLASNO_ANSWER_FAIL << 8));
+  CHECK(HEARD(YUGLASNO_CALL_NEXT_ENTRY, "", "DENT" STAT1 "\3\0\0\0def", cut) == YUGLASNO_ANSWER_OK && no_entry(YUGLASNO_WHAT_READ));
+  CHECK(left_alone(YUGLASNO_ANSWER_INDEX_FULL, 0, AREA, YUGLASNO_REPLY));
+  CHECK(left_alone(YUGLASNO_ANSWER_OTHER_LENGTH, 0, AREA + 1, YUGLASNO_REPLY));
+  CHECK(left_alone(YUGLASNO_ANSWER_OTHER_LENGTH, 0, AREA - 1, YUGLASNO_REPLY));
+  CHECK(left_alone(YUGLASNO_ANSWER_OTHER_LENGTH, 0, AREA, YUGLASNO_REPLY - 1));
+  CHECK(yuglasno_index_add(NULL, 0, NULL, 0, 0, NULL, 0, NULL, 0) == YUGLASNO_ANSWER_OTHER_LENGTH);
+  CHECK(HEARD(YUGLASNO_CALL_NEXT_ENTRY, "", "DENT" STAT1 "\2\0\0\0gh", cut) == YUGLASNO_ANSWER_OK && added());
+  CHECK(memcmp(area, "abcgh\356", AREA + 1) == 0);
+}
+
+static int spans(uint32_t told, uint64_t many, uint64_t first) {
+  return told == YUGLASNO_ANSWER_OK && word(YUGLASNO_SPAN_MANY) == many && word(YUGLASNO_SPAN_FIRST) == first;
+}
+
+/* The entry of a rank, by its name, number and time. */
+static int ranks(size_t rank, const char *name, uint64_t number, int64_t mtime) {
+  if (yuglasno_index_entry(SLOTS, AREA, rank, REPLY) != YUGLASNO_ANSWER_OK || word(YUGLASNO_ITEM_THERE) != 1) return 0;
+  return word(YUGLASNO_ITEM_LENGTH) == strlen(name) && memcmp(area + word(YUGLASNO_ITEM_START), name, strlen(name)) == 0 &&
+         word(YUGLASNO_ITEM_NUMBER) == number && (int64_t)word(YUGLASNO_ITEM_MTIME) == mtime;
+}
+
+static void index_queries(void) {
+  memset(out, 0xee, YUGLASNO_REPLY);
+  CHECK(spans(yuglasno_index_between(SLOTS, AREA, -1, 5, REPLY), 3, 0) && spans(yuglasno_index_between(SLOTS, AREA, 0, 5, REPLY), 2, 1));
+  CHECK(yuglasno_index_between(SLOTS, AREA, 5, 4, REPLY) == YUGLASNO_ANSWER_OK && word(YUGLASNO_SPAN_MANY) == 0);
+  CHECK(spans(yuglasno_index_latest(SLOTS, AREA, INT64_MAX, REPLY), 1, 1) && spans(yuglasno_index_latest(SLOTS, AREA, 4, REPLY), 1, 0));
+  CHECK(yuglasno_index_latest(SLOTS, AREA, -2, REPLY) == YUGLASNO_ANSWER_OK && word(YUGLASNO_SPAN_MANY) == 0 && out[16] == 0xee);
+  CHECK(ranks(0, "bc", 1, -1) && ranks(1, "a", 0, 5) && ranks(2, "gh", 2, 5) && out[40] == 0xee);
+  CHECK(yuglasno_index_entry(SLOTS, AREA, 3, REPLY) == YUGLASNO_ANSWER_OK && word(YUGLASNO_ITEM_THERE) == 0);
+  memset(out, 0xee, YUGLASNO_REPLY);
+  CHECK(yuglasno_index_between(slots, YUGLASNO_SLOTS - 1, AREA, 0, 9, REPLY) == YUGLASNO_ANSWER_OTHER_LENGTH);
+  CHECK(yuglasno_index_latest(SLOTS, AREA + 1, 9, REPLY) == YUGLASNO_ANSWER_OTHER_LENGTH);
+  CHECK(yuglasno_index_entry(SLOTS, AREA, 0, out, YUGLASNO_REPLY - 1) == YUGLASNO_ANSWER_OTHER_LENGTH);
+  CHECK(yuglasno_index_entry(NULL, 0, 0, 0, NULL, 0) == YUGLASNO_ANSWER_OTHER_LENGTH && word(0) == UINT64_C(0xeeeeeeeeeeeeeeee));
+}
+
 int main(void) {
   opening();
   ids();
@@ -268,6 +351,9 @@ int main(void) {
   for (size_t cut = 1; cut <= CAPACITY; cut += 50) {
     answered(cut);
     panels_answers(cut);
+    index_opening();
+    index_filling(cut);
+    index_queries();
   }
   quitting();
   printf("%d passed, %d failed\n", passed, failed);

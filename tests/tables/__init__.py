@@ -19,16 +19,20 @@ def found(pattern, text):
 
 
 def order(text):
-    """The order of the answers as it is written for readers: each number by its place, of a call, of a report and of a table of ids."""
+    """The order of the answers as it is written for readers: each number by its place, of a call, of a report, of a table of ids and of an
+    index."""
     plain = re.sub(r'\s+(?:\*|///)?\s*', ' ', text)
     said = re.search(r'the first of ([\d, ]+), then ([\d, ]+) is answered; of a report ([\d, ]+\d)', plain)
     of_a_table = re.search(r'Of a table(?: of ids)? it is (\d+), then (\d+), behind', plain)
-    return placed(said[1].split(', ') + said[2].split(', '), said[3].split(', '), of_a_table.groups()) if said and of_a_table else {}
+    of_an_index = re.search(r'Of an index it is (\d+), then (\d+)', plain)
+    if not (said and of_a_table and of_an_index):
+        return {}
+    return placed(said[1].split(', ') + said[2].split(', '), said[3].split(', '), of_a_table.groups(), of_an_index.groups())
 
 
-def placed(of_a_call, of_a_report, of_a_table):
+def placed(of_a_call, of_a_report, of_a_table, of_an_index):
     """Each number by its place, in each order."""
-    orders = {'order': of_a_call, 'order of a report': of_a_report, 'order of a table': of_a_table}
+    orders = {'order': of_a_call, 'order of a report': of_a_report, 'order of a table': of_a_table, 'order of an index': of_an_index}
     return {name: {f'{int(n)}': i for i, n in enumerate(numbers, 1)} for name, numbers in orders.items()}
 
 

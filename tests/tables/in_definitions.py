@@ -15,9 +15,10 @@ RECORD, FIELDS = specs('record', 'Record Fields')
 READER = 'crates/request_reader/specs/Meaning.antt'
 MISUSE, = specs('boundary_misuse', 'Misuse')
 IDS_FILE, SETTINGS = specs('id_table', 'IdsFile Settings')
+INDEX, SLOTS, INDEX_CROSSING, INDEX_CLAIM = specs('time_index', 'Index Slots Crossing Claim')
 EXPORTS = 'crates/exports/src/lib.rt'
 SOURCES = [TOLD, CROSSING, BOUNDARY, HEARD, ANSWERS, REFUSAL, IDS, MESSAGES, FEATURES, FLAGS, OPENING, REPORTS, HOST, RECORD, FIELDS, READER]
-SOURCES += [EXPORTS, MISUSE, IDS_FILE, SETTINGS]
+SOURCES += [EXPORTS, MISUSE, IDS_FILE, SETTINGS, INDEX, SLOTS, INDEX_CROSSING, INDEX_CLAIM]
 
 # the definitions' words for the calls, and for some answers and kinds
 CALLED = {
@@ -42,6 +43,7 @@ REFUSALS = {
     'COUNT': (REPORTS, r'pick \(ltb \(s \.ses \.capacity - s \.ses \.buf \.tail\) k\) \(refusedOut s (\d+)\)'),
     'BAD_IDS': (IDS_FILE, r'badForm = (\d+)'),
     'EQUAL_IDS': (IDS_FILE, r'equalValues = (\d+)'),
+    'INDEX_FULL': (INDEX, r'indexFull = (\d+)'),
     'BAD_REQUEST': (READER, r'number R\.Refused = (\d+)'),
 }
 
@@ -138,9 +140,17 @@ def read(heard):
     }
 
 
-def order(misuse, refusal, answers, ids_file):
+def index_order(crossing, index):
+    """Of an add to an index: the answer of its outer test, then that of the inner one."""
+    outer = re.search(r'\(added s area [^\n]*\) \(indexed s area (\w+)\)\n', crossing)
+    inner = re.search(r'\(indexed s area (\w+)\)\nadded s area nothing', crossing)
+    numbers = [re.search(rf'\n{tested[1]} = (\d+)', crossing + index) for tested in (outer, inner) if tested]
+    return [number[1] for number in numbers if number]
+
+
+def order(misuse, refusal, answers, ids_file, of_an_index):
     """The numbers in the order of their tests: of the opening, of a call (then of its number, its path, its flags, its features), of a
-    report, of a table of ids."""
+    report, of a table of ids, of an index."""
     def refused(text, start):
         return re.findall(r'\(refused (\d+)\)', section(text, start, '\n\n'))
     opening = refused(misuse, 'openRefused rec settings rx msg =')[:2]
@@ -148,15 +158,17 @@ def order(misuse, refusal, answers, ids_file):
     of_request = refused(misuse, 'numbered s none =') + refused(refusal, 'pathRefusal d p =') + refused(refusal, 'flagRefusal pull f =')
     tests = re.search(r'areValues vs\) \(pick \(twoEqual vs\) \(refused (\w+)\) \(ids vs\)\) \(refused (\w+)\)', ids_file)
     table = [re.search(rf'\n{name} = (\d+)', ids_file)[1] for name in reversed(tests.groups())] if tests else []
-    return placed(opening + call + of_request + re.findall(r'\nnumber \(missing \w+\) = (\d+)', answers), report, table)
+    return placed(opening + call + of_request + re.findall(r'\nnumber \(missing \w+\) = (\d+)', answers), report, table, of_an_index)
 
 
 def tables(texts):
     listed = features(texts[FEATURES])
     told = texts[TOLD].replace('= 256 * answerNumber a', '= 0')
     limits = {'RECORD': (RECORD, 'size'), 'REPLY': (TOLD, 'outSize'), 'DATA_MOST': (MESSAGES, 'dataMost'), 'PATH_MOST': (IDS, 'longest')}
-    limits['SETTINGS'] = SETTINGS, 'settingsSize'
-    return read(texts[HEARD]) | order(texts[MISUSE], texts[REFUSAL], texts[ANSWERS], texts[IDS_FILE]) | {
+    limits |= {'SETTINGS': (SETTINGS, 'settingsSize'), 'SLOTS': (SLOTS, 'slotsSize')}
+    limits |= {'INDEX_ENTRIES': (INDEX, 'mostEntries'), 'INDEX_NAMES': (INDEX, 'mostNames')}
+    of_an_index = index_order(texts[INDEX_CROSSING], texts[INDEX])
+    return read(texts[HEARD]) | order(texts[MISUSE], texts[REFUSAL], texts[ANSWERS], texts[IDS_FILE], of_an_index) | {
         'lengths': {name: int(m[1]) for name, (path, word) in limits.items() if (m := re.search(rf'{word} = (\d+)', texts[path]))},
         'calls': calls(texts[BOUNDARY]),
         'calls, at the start': numbered(texts[CROSSING]),
@@ -170,10 +182,22 @@ def tables(texts):
         'features': listed,
         'flags': flags(texts[REFUSAL], texts[FLAGS], listed),
         'record': found(r'(?P<number>\d+) (?P<name>tail|until)\b', section(texts[FIELDS], '--  0 capacity', '--\n')),
+        'words of a span': span(texts[INDEX_CLAIM]),
+        'words of an item': item(texts[INDEX_CLAIM]),
         'functions': dict(functions(texts[EXPORTS])),
     }
 
 
+def span(claim):
+    read = re.search(r'itemsFrom \(at o (\d+)\) \(at o (\d+)\)', claim)
+    return {'FIRST': int(read[1]), 'MANY': int(read[2])} if read else {}
+
+
+def item(claim):
+    read = re.search(r'eqb \(at o (\d+)\) 1\) \(some \(item \(at o (\d+)\) \(signed \(at o (\d+)\)\) \(take \(at o (\d+)\) \(drop \(at o (\d+)\)', claim)
+    return {name: int(n) for name, n in zip(('THERE', 'NUMBER', 'MTIME', 'LENGTH', 'START'), read.groups())} if read else {}
+
+
 def functions(text):
     for declared in re.finditer(r'pub extern "C" fn (yuglasno_\w+)\(([^)]*)\) -> u32', text):
-        yield declared[1], list(crossed(re.findall(r'(\w+): (&mut \[u8\]|&\[u8\]|usize|u32)', declared[2])))
+        yield declared[1], list(crossed(re.findall(r'(\w+): (&mut \[u8\]|&\[u8\]|usize|u32|i64)', declared[2])))

@@ -5,8 +5,9 @@ from . import found, order
 
 SOURCES = ['include/yuglasno.h']
 GROUPS = {'calls': 'CALL', 'what': 'WHAT', 'faults': 'FAULT', 'answers': 'ANSWER', 'features': 'FEATURE', 'kinds': 'KIND', 'words': 'AT'}
-GROUPS |= {'flags': 'FLAG'}
-KINDS = {'uint8_t *': 'mut u8 ', 'const uint8_t *': 'const u8 ', 'size_t ': 'usize ', 'uint32_t ': 'u32 '}
+GROUPS |= {'flags': 'FLAG', 'words of a span': 'SPAN', 'words of an item': 'ITEM'}
+KINDS = {'uint8_t *': 'mut u8 ', 'const uint8_t *': 'const u8 ', 'size_t ': 'usize ', 'uint32_t ': 'u32 ', 'int64_t ': 'i64 '}
+LENGTHS = 'RECORD|SETTINGS|REPLY|DATA_MOST|CAPACITY|PATH_MOST|SLOTS|INDEX_ENTRIES|INDEX_NAMES'
 
 
 def uses(text):
@@ -25,7 +26,7 @@ def functions(text):
 def tables(texts):
     text = texts[SOURCES[0]]
     made = {name: found(rf'YUGLASNO_{group}_(?P<name>\w+)(?: =)? (?P<number>0x\w+?|\d+)(?=u?\b)', text) for name, group in GROUPS.items()}
-    made['lengths'] = found(r'#define YUGLASNO_(?P<name>RECORD|SETTINGS|REPLY|DATA_MOST|CAPACITY|PATH_MOST) (?P<number>\d+)', text)
+    made['lengths'] = found(rf'#define YUGLASNO_(?P<name>{LENGTHS}) (?P<number>\d+)', text)
     made['record'] = found(r'(?P<name>until|tail) = yuglasno_word\(rec, (?P<number>\d+)\)', text)
     made['uses'] = dict(uses(text))
     made['functions'] = dict(functions(text))

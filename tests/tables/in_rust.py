@@ -5,8 +5,8 @@ from . import found, order, section, snake
 
 CRATE = 'rust/yuglasno/src/'
 RAW, CALL, REPLY, ANSWER, ERROR = (CRATE + name for name in ('raw.rs', 'call.rs', 'reply.rs', 'answer.rs', 'error.rs'))
-SESSION, FEATURE, NUMBERS, LIB = (CRATE + name for name in ('session.rs', 'feature.rs', 'numbers.rs', 'lib.rs'))
-SOURCES = [RAW, CALL, REPLY, ANSWER, ERROR, SESSION, FEATURE, NUMBERS, LIB]
+SESSION, FEATURE, NUMBERS, LIB, INDEX = (CRATE + name for name in ('session.rs', 'feature.rs', 'numbers.rs', 'lib.rs', 'index.rs'))
+SOURCES = [RAW, CALL, REPLY, ANSWER, ERROR, SESSION, FEATURE, NUMBERS, LIB, INDEX]
 FIELD = r'(?P<name>\w+): (?:FileMode\()?word\(out, (?P<number>\d+)\)'
 
 
@@ -50,13 +50,14 @@ def words(answer, session, error):
 
 def functions(text):
     for declared in re.finditer(r'pub fn (yuglasno_\w+)\(([^)]*)\) -> u32;', text):
-        pairs = re.findall(r'(\w+): (\*mut u8|\*const u8|usize|u32)', declared[2])
+        pairs = re.findall(r'(\w+): (\*mut u8|\*const u8|usize|u32|i64)', declared[2])
         yield declared[1], [kind.lstrip('*') + ' ' + name for name, kind in pairs]
 
 
 def tables(texts):
-    lengths = found(r'pub const (?P<name>RECORD|SETTINGS|REPLY): usize = (?P<number>\d+);', texts[RAW])
+    lengths = found(r'pub const (?P<name>RECORD|SETTINGS|REPLY|SLOTS): usize = (?P<number>\d+);', texts[RAW])
     lengths |= found(r'pub const (?P<name>PATH_MOST|DATA_MOST): usize = (?P<number>[\d_]+);', texts[LIB])
+    lengths |= found(r'pub const (?P<name>INDEX_\w+): usize = (?P<number>[\d_]+);', texts[INDEX])
     header = re.search(r'pub const CAPACITY: usize = (\d+) \+ DATA_MOST;', texts[LIB])
     return order(texts[ERROR]) | {
         'lengths': lengths | ({'CAPACITY': int(header[1]) + lengths['DATA_MOST']} if header else {}),
@@ -70,6 +71,8 @@ def tables(texts):
         'features': found(r'(?P<name>\w+) = (?P<number>\d+),', section(texts[FEATURE], 'pub enum Feature', '\n}\n')),
         'flags': found(r'pub const (?P<name>\w+): Self = Self\((?P<number>\w+)\);', texts[NUMBERS]),
         'record': wanted(texts[RAW]),
+        'words of a span': span(texts[INDEX]),
+        'words of an item': item(texts[INDEX]),
         'functions': dict(functions(texts[RAW])),
     }
 
@@ -77,3 +80,14 @@ def tables(texts):
 def wanted(text):
     read = re.search(r'number\((\d+)\)\.saturating_sub\(number\((\d+)\)\)', text)
     return {'UNTIL': int(read[1]), 'TAIL': int(read[2])} if read else {}
+
+
+def span(text):
+    read = re.search(r'\(word\(&out, (\d+)\) as usize, word\(&out, (\d+)\) as usize\)', text)
+    return {'MANY': int(read[1]), 'FIRST': int(read[2])} if read else {}
+
+
+def item(text):
+    made = found(r'(?P<name>mtime|number): word\(&out, (?P<number>\d+)\)', text)
+    start = only(r'part\(&out, (\d+)\)', text)
+    return made | ({'START': start, 'LENGTH': start + 1} if start is not None else {})

@@ -113,6 +113,12 @@ use Rattle.boundary_misuse.specs.Settled.{SettledClaim}
 use Rattle.boundary_misuse.proofs.Cases as Cases
 use Rattle.boundary_misuse.proofs.Misuse as Misuse
 use Rattle.boundary_misuse.proofs.Settled as Settled
+use Rattle.time_index.specs.Claim.{IndexClaim}
+use Rattle.time_index.specs.Facts as IndexFacts
+use Rattle.time_index.specs.Logged.{LoggedClaim}
+use Rattle.time_index.proofs.Facts as IndexRows
+use Rattle.time_index.proofs.Index as Indexed
+use Rattle.time_index.proofs.Logged as IndexLogged
 use Rattle.claims.proofs.Loading as Loading
 
 -- ---- the exported functions
@@ -133,6 +139,14 @@ id-tables = Tables.id-tables
 pub loaded-opens : (settings file : List ℕ) → crossIds settings file .1 ≡ 0 → (values : List (List ℕ)) × (idsIn file ≡ ids values)
     × ((rec banner : List ℕ) (rx msg : ℕ) → crossOpen rec (crossIds settings file .0) banner rx msg ≡ crossOpen rec (settingsOf (tableFrom values)) banner rx msg)
 loaded-opens = Loading.loaded-opens
+
+-- an index beside a listing, of every list of replies: what it holds, what it answers, what it turns away (time_index/specs/Claim)
+pub index-claim : IndexClaim
+index-claim = Indexed.index-claim
+
+-- ... and beside demand 3's logs: it holds what the plain reader's answers make it hold (time_index/specs/Logged)
+pub index-logged : LoggedClaim
+index-logged = IndexLogged.logged-claim
 
 -- what is misplaced is refused by the table, and nothing else is (boundary_misuse/specs/Claim)
 pub misuse : Table.MisuseClaim
@@ -301,6 +315,23 @@ files-hold = (IdRows.taken-hold, IdRows.malformed-hold, IdRows.doubled-hold)
 
 pub settings-hold : Hold IdFacts.settings × Hold IdFacts.lending
 settings-hold = (IdRows.settings-hold, IdRows.lending-holds)
+
+-- the index: which answers are entries and of which time, what is held and answered, between two times and the latest
+pub index-holds : Hold IndexFacts.offers × Hold IndexFacts.times × Hold IndexFacts.holding × Hold IndexFacts.answering
+index-holds = (IndexRows.offers-hold, IndexRows.times-hold, IndexRows.holding-holds, IndexRows.answering-holds)
+
+pub queries-hold : Hold IndexFacts.spans × Hold IndexFacts.latests
+queries-hold = (IndexRows.spans-hold, IndexRows.latests-hold)
+
+-- ... its limits and its bytes
+pub slots-hold : Hold IndexFacts.rooms × Hold IndexFacts.indexes × Hold IndexFacts.slots × Hold IndexFacts.ranks × Hold IndexFacts.told
+slots-hold = (IndexRows.rooms-hold, IndexRows.indexes-hold, IndexRows.slots-hold, IndexRows.ranks-hold, IndexRows.told-holds)
+
+pub asking-holds : Hold IndexFacts.opening × Hold IndexFacts.asking × Hold IndexFacts.seeking
+asking-holds = (IndexRows.opening-holds, IndexRows.asking-holds, IndexRows.seeking-holds)
+
+pub adding-holds : Hold IndexFacts.adding × Hold IndexFacts.turned × Hold IndexFacts.keeping × Hold IndexFacts.crossing
+adding-holds = (IndexRows.adding-holds, IndexRows.turned-hold, IndexRows.keeping-holds, IndexRows.crossing-holds)
 
 -- the panel's request reader, decimals, modes, the ids
 pub receiving-holds : Hold ReceiveFacts.receiving

@@ -1,4 +1,4 @@
--- What each of the seven exported functions meets, by the places of its parameters: the crossings that demand 3 is about. Each takes any
+-- What each of the twelve exported functions meets, by the places of its parameters: the crossings that demand 3 and the index's claim are about. Each takes any
 -- arguments (there is no `requires`), and says every byte that it was lent mutably and the number that it returns.
 -- Assumes nothing.
 use mathlib.Core.Path.{_≡_}
@@ -34,6 +34,22 @@ use Rattle.exports.proofs.yuglasno_wrote.Symbol as wrote-code
 use Rattle.exports.proofs.yuglasno_fault as fault
 use Rattle.exports.proofs.yuglasno_fault.Met as fault-thm
 use Rattle.exports.proofs.yuglasno_fault.Symbol as fault-code
+use Rattle.exports.proofs.yuglasno_index_open as index-open
+use Rattle.exports.proofs.yuglasno_index_open.Met as index-open-thm
+use Rattle.exports.proofs.yuglasno_index_open.Symbol as index-open-code
+use Rattle.exports.proofs.yuglasno_index_add as index-add
+use Rattle.exports.proofs.yuglasno_index_add.Met as index-add-thm
+use Rattle.exports.proofs.yuglasno_index_add.Symbol as index-add-code
+use Rattle.exports.proofs.yuglasno_index_between as index-between
+use Rattle.exports.proofs.yuglasno_index_between.Met as index-between-thm
+use Rattle.exports.proofs.yuglasno_index_between.Symbol as index-between-code
+use Rattle.exports.proofs.yuglasno_index_latest as index-latest
+use Rattle.exports.proofs.yuglasno_index_latest.Met as index-latest-thm
+use Rattle.exports.proofs.yuglasno_index_latest.Symbol as index-latest-code
+use Rattle.exports.proofs.yuglasno_index_entry as index-entry
+use Rattle.exports.proofs.yuglasno_index_entry.Met as index-entry-thm
+use Rattle.exports.proofs.yuglasno_index_entry.Symbol as index-entry-code
+use Rattle.time_index.specs.Crossing.{laid, indexed, crossIndexOpen, crossIndexAdd, crossIndexBetween, crossIndexLatest, crossIndexEntry}
 
 module _ {M : Type 1} (𝓤 : URA M) (H : Heap 𝓤) (𝓜 : Model 𝓤 H) (𝓖 : GhostRules 𝓤 H) (𝓡 : Running 𝓤 H 𝓜) where
   open Notation.Connectives (Notation.connectives 𝓤) using (⌜_⌝, ⊤ₛ)
@@ -82,3 +98,32 @@ module _ {M : Type 1} (𝓤 : URA M) (H : Heap 𝓤) (𝓜 : Model 𝓤 H) (𝓖
       (λ κs (rec, (rx, (msg, (lent, (kind, (code, (out, _))))))) r (rec′, (rx′, (msg′, (lent′, (kind′, (code′, (out′, _))))))).
       crossed (now rec′) (now rx′) (now msg′) (now out′) r ≡ crossFault (now rec) (now rx) (now msg) (now lent) kind code (now out))))
   fault-met = fault-thm.met 𝓤 H 𝓜 𝓖 𝓡
+
+  pub index-open-met : Meets 𝓤 H (𝓖 .A) index-open.signature (𝓡 .run index-open-code.routine)
+      (closing 𝓤 H (𝓖 .A) index-open.ended (stating index-open.ended
+      (λ κs (slots, (area, _)) r (slots′, _). laid (now slots′) r ≡ crossIndexOpen (now slots) area)))
+  index-open-met = index-open-thm.met 𝓤 H 𝓜 𝓖 𝓡
+
+  pub index-add-met : Meets 𝓤 H (𝓖 .A) index-add.signature (𝓡 .run index-add-code.routine)
+      (closing 𝓤 H (𝓖 .A) index-add.ended (stating index-add.ended
+      (λ κs (slots, (area, (told, (reply, (rx, _))))) r (slots′, (area′, _)).
+      indexed (now slots′) (now area′) r ≡ crossIndexAdd (now slots) (now area) told (now reply) (now rx))))
+  index-add-met = index-add-thm.met 𝓤 H 𝓜 𝓖 𝓡
+
+  pub index-between-met : Meets 𝓤 H (𝓖 .A) index-between.signature (𝓡 .run index-between-code.routine)
+      (closing 𝓤 H (𝓖 .A) index-between.ended (stating index-between.ended
+      (λ κs (slots, (area, (from, (to, (out, _))))) r (slots′, (area′, (from′, (to′, (out′, _))))).
+      laid (now out′) r ≡ crossIndexBetween (now slots) area from to (now out))))
+  index-between-met = index-between-thm.met 𝓤 H 𝓜 𝓖 𝓡
+
+  pub index-latest-met : Meets 𝓤 H (𝓖 .A) index-latest.signature (𝓡 .run index-latest-code.routine)
+      (closing 𝓤 H (𝓖 .A) index-latest.ended (stating index-latest.ended
+      (λ κs (slots, (area, (time, (out, _)))) r (slots′, (area′, (time′, (out′, _)))).
+      laid (now out′) r ≡ crossIndexLatest (now slots) area time (now out))))
+  index-latest-met = index-latest-thm.met 𝓤 H 𝓜 𝓖 𝓡
+
+  pub index-entry-met : Meets 𝓤 H (𝓖 .A) index-entry.signature (𝓡 .run index-entry-code.routine)
+      (closing 𝓤 H (𝓖 .A) index-entry.ended (stating index-entry.ended
+      (λ κs (slots, (area, (rank, (out, _)))) r (slots′, (area′, (rank′, (out′, _)))).
+      laid (now out′) r ≡ crossIndexEntry (now slots) area rank (now out))))
+  index-entry-met = index-entry-thm.met 𝓤 H 𝓜 𝓖 𝓡

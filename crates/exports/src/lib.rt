@@ -1,9 +1,11 @@
-// The exported functions: a session in a lent record, both buffers, what is lent, and a slice for the reply.
+// The exported functions: a session in a lent record, both buffers, what is lent, and a slice for the reply; and an index of a listing's
+// entries by their times, in lent slots and an area.
 ghost use mathlib.Core.Path.{_≡_};
 ghost use lib.ListN.{length};
 ghost use Rattle.boundary.specs.Crossing.{crossed, set, crossSettings, crossIds, crossOpen, crossStart, crossRead, crossWrote, crossFault};
 ghost use Rattle.record.specs.Record.{loaded};
 ghost use Rattle.fast_read.specs.Short.{shortIn};
+ghost use Rattle.time_index.specs.Crossing.{laid, indexed, crossIndexOpen, crossIndexAdd, crossIndexBetween, crossIndexLatest, crossIndexEntry};
 ghost use Rattle.exports.specs.Opened.{openCrossed};
 use boundary::REPLY;
 use boundary_reply::put_two;
@@ -31,6 +33,11 @@ use record_store::store;
 use record_store::store_tail;
 use session_calls::fresh;
 use session_calls::open_refusal;
+use time_index_slots::index_add;
+use time_index_slots::index_between;
+use time_index_slots::index_entry;
+use time_index_slots::index_latest;
+use time_index_slots::index_open;
 
 // The answer to a record of another length.
 const OTHER_LENGTH: u32 = 3;
@@ -245,4 +252,62 @@ pub extern "C" fn yuglasno_fault(
     ensures { λ r. ⌜ crossed (now (rec .exit)) (now (rx .exit)) (now (msg .exit)) (now (out .exit)) r ≡ crossFault (now (rec .entry)) (now (rx .entry)) (now (msg .entry)) (now (lent .entry)) kind code (now (out .entry)) ⌝ }
 {
     slow_fault(rec, rx, msg, lent, kind, code, out)
+}
+
+// An index that holds nothing, beside an area of that length: 0, or 3 for slots of another length, which are left alone.
+#[no_mangle]
+pub extern "C" fn yuglasno_index_open(slots: &mut [u8], area: usize) -> u32
+    ensures { λ r. ⌜ laid (now (slots .exit)) r ≡ crossIndexOpen (now (slots .entry)) area ⌝ }
+{
+    index_open(slots, area)
+}
+
+// The entry that was told, into the index; any other reply changes nothing. 0, or 3, or 19 for an entry without a slot or room for its name;
+// a refusal leaves slots and area alone.
+#[no_mangle]
+pub extern "C" fn yuglasno_index_add(
+    slots: &mut [u8],
+    area: &mut [u8],
+    told: u32,
+    reply: &[u8],
+    rx: &[u8],
+) -> u32
+    ensures { λ r. ⌜ indexed (now (slots .exit)) (now (area .exit)) r ≡ crossIndexAdd (now (slots .entry)) (now (area .entry)) told (now (reply .entry)) (now (rx .entry)) ⌝ }
+{
+    index_add(slots, area, told, reply, rx)
+}
+
+// How many entries have a time from `from` to `to`, and the rank of the first in time order: 0, or 3 and out is left alone.
+#[no_mangle]
+pub extern "C" fn yuglasno_index_between(
+    slots: &[u8],
+    area: usize,
+    from: i64,
+    to: i64,
+    out: &mut [u8],
+) -> u32
+    ensures { λ r. ⌜ laid (now (out .exit)) r ≡ crossIndexBetween (now (slots .entry)) area from to (now (out .entry)) ⌝ }
+{
+    index_between(slots, area, from, to, out)
+}
+
+// The same of the latest entry at or before a time, of equal ones the first listed.
+#[no_mangle]
+pub extern "C" fn yuglasno_index_latest(slots: &[u8], area: usize, time: i64, out: &mut [u8]) -> u32
+    ensures { λ r. ⌜ laid (now (out .exit)) r ≡ crossIndexLatest (now (slots .entry)) area time (now (out .entry)) ⌝ }
+{
+    index_latest(slots, area, time, out)
+}
+
+// The entry of a rank: where its name lies in the area, its number and its time. 0, or 3 and out is left alone.
+#[no_mangle]
+pub extern "C" fn yuglasno_index_entry(
+    slots: &[u8],
+    area: usize,
+    rank: usize,
+    out: &mut [u8],
+) -> u32
+    ensures { λ r. ⌜ laid (now (out .exit)) r ≡ crossIndexEntry (now (slots .entry)) area rank (now (out .entry)) ⌝ }
+{
+    index_entry(slots, area, rank, out)
 }

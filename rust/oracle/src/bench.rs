@@ -1,5 +1,6 @@
 //! The costs of both sides on the same scripted bytes, and of the channel alone.
 mod cases;
+pub mod index;
 mod script;
 mod sides;
 

@@ -50,6 +50,7 @@ oracle differences             the intended differences, with their bytes
 oracle record N SEED           the trial pieces and N short lists, as text to be replayed
 oracle replay FILE             such a text, replayed on this library
 oracle bench                   times of both sides and of the channel alone
+oracle bench index             times of the index, and of a sorted Vec beside it
 oracle bench NAME SIDE [P]     one run by theirs, ours or floor (the channel alone), of P percent of its size";
 
 #[cfg(original)]
@@ -64,6 +65,7 @@ fn main() {
         ["record", count, seed] => record::print(number(count), number(seed)),
         ["replay", path] => replay::run(path),
         ["bench"] => bench::table(60),
+        ["bench", "index"] => bench::index::table(60),
         ["bench", name, side] => bench::once(name, side, 100),
         ["bench", name, side, percent] => bench::once(name, side, number(percent) as usize),
         _ => {

@@ -19,6 +19,8 @@
 //!
 //! The ids of the messages are the published ones; [`Settings`] have others from a file, and [`Session::open_with`] takes them.
 //!
+//! An [`Index`] beside a listing answers which entries are from one time to another, and which is the latest at a time.
+//!
 //! What a call comes to has a number: see [`Error`]. A chunk and a name are parts of the receive buffer, lent until the
 //! session's next call; the session allocates nothing but the copy of a FAIL's text that its error keeps.
 //!
@@ -32,6 +34,7 @@ mod call;
 mod error;
 mod feature;
 mod ids;
+mod index;
 mod link;
 mod meanings;
 mod numbers;
@@ -55,6 +58,7 @@ pub use call::{Call, Report};
 pub use error::Error;
 pub use feature::Feature;
 pub use ids::{Ids, PUBLISHED_IDS};
+pub use index::{Index, Item, INDEX_ENTRIES, INDEX_NAMES};
 pub use link::{code_of, Fault, Link, Pair};
 pub use meanings::{meaning, MEANINGS};
 pub use numbers::{FileMode, SyncFlags};

@@ -1,13 +1,13 @@
 //! The meanings of the answers' numbers, in a line each: one table, for whoever shows it.
 
 /// Every number that an answer has, with its meaning: 0 to 17 of a session, 18 of the reader of
-/// requests, 22 and 23 of a table of ids.
+/// requests, 19 of an index, 22 and 23 of a table of ids.
 ///
 /// ```
 /// let (number, text) = yuglasno::MEANINGS[12];
 /// assert_eq!((number, text), (12, "the channel is closed"));
 /// ```
-pub const MEANINGS: [(u32, &str); 21] = [
+pub const MEANINGS: [(u32, &str); 22] = [
     (0, "done"),
     (1, "the receive buffer is under 8 bytes"),
     (2, "the message buffer is shorter than the receive buffer"),
@@ -27,6 +27,7 @@ pub const MEANINGS: [(u32, &str); 21] = [
     (16, "the panel could not look at the file; its errno comes along (2: no such file or folder)"),
     (17, "a reply is larger than the receive buffer"),
     (18, "the bytes are no request of a host"),
+    (19, "the index has no room for an entry; it is as it was before that entry"),
     (22, "a file, or the settings of an opening, is no table of ids; the old table stays"),
     (23, "two ids of the table are equal; the old table stays"),
 ];
@@ -35,7 +36,7 @@ pub const MEANINGS: [(u32, &str); 21] = [
 ///
 /// ```
 /// assert_eq!(yuglasno::meaning(8), Some("a NUL in the path"));
-/// assert_eq!(yuglasno::meaning(19), None);
+/// assert_eq!(yuglasno::meaning(20), None);
 /// ```
 pub fn meaning(number: u32) -> Option<&'static str> {
     MEANINGS.iter().find(|(each, _)| *each == number).map(|(_, text)| *text)

@@ -1,4 +1,4 @@
-//! The static library's seven functions, and safe ones of the same shape over them. The only file with `unsafe`.
+//! The static library's twelve functions, and safe ones of the same shape over them. The only file with `unsafe`.
 //!
 //! A slice crosses as its address and its length. The library keeps no pointer: it reads and writes within the
 //! slices that a call lends it, and only until the call returns. Each function answers every input.
@@ -28,6 +28,20 @@ mod linked {
             rec: *mut u8, rec_len: usize, rx: *mut u8, rx_len: usize, msg: *mut u8, msg_len: usize,
             lent: *const u8, lent_len: usize, kind: u32, code: u32, out: *mut u8, out_len: usize,
         ) -> u32;
+        pub fn yuglasno_index_open(slots: *mut u8, slots_len: usize, area: usize) -> u32;
+        pub fn yuglasno_index_add(
+            slots: *mut u8, slots_len: usize, area: *mut u8, area_len: usize, told: u32, reply: *const u8, reply_len: usize,
+            rx: *const u8, rx_len: usize,
+        ) -> u32;
+        pub fn yuglasno_index_between(
+            slots: *const u8, slots_len: usize, area: usize, from: i64, to: i64, out: *mut u8, out_len: usize,
+        ) -> u32;
+        pub fn yuglasno_index_latest(
+            slots: *const u8, slots_len: usize, area: usize, time: i64, out: *mut u8, out_len: usize,
+        ) -> u32;
+        pub fn yuglasno_index_entry(
+            slots: *const u8, slots_len: usize, area: usize, rank: usize, out: *mut u8, out_len: usize,
+        ) -> u32;
     }
 }
 
@@ -37,6 +51,8 @@ pub const RECORD: usize = 256;
 pub const SETTINGS: usize = 128;
 /// The length of a slice that takes any reply.
 pub const REPLY: usize = 112;
+/// The length of an index's slots.
+pub const SLOTS: usize = 65568;
 
 /// How many bytes the read that is asked for still wants: the record's number 9, where tail meets the need, less number 3,
 /// the tail. 0 where no read is asked for.
@@ -107,4 +123,39 @@ pub fn fault(rec: &mut [u8], rx: &mut [u8], msg: &mut [u8], lent: &[u8], kind: u
             lent.as_ptr(), lent.len(), kind, code, out.as_mut_ptr(), out.len(),
         )
     }
+}
+
+/// Makes `slots` an index that holds nothing, for an area of this length: 0, or 3 for another length than [`SLOTS`].
+pub fn index_open(slots: &mut [u8], area: usize) -> u32 {
+    unsafe { linked::yuglasno_index_open(slots.as_mut_ptr(), slots.len(), area) }
+}
+
+/// Adds the entry that a reply carries, with its name from `rx`: `told` is what a start or a report returned, `reply` what it wrote. 0, also
+/// where it carries none; or, with nothing changed, 3 for slots that are no index of an area of this length or a reply that no session
+/// wrote, 19 where slots or name bytes run out.
+pub fn index_add(slots: &mut [u8], area: &mut [u8], told: u32, reply: &[u8], rx: &[u8]) -> u32 {
+    unsafe {
+        linked::yuglasno_index_add(
+            slots.as_mut_ptr(), slots.len(), area.as_mut_ptr(), area.len(), told, reply.as_ptr(), reply.len(),
+            rx.as_ptr(), rx.len(),
+        )
+    }
+}
+
+/// Writes how many entries have a time from `from` to `to`, and the rank of the first: 0, or 3 for no index or too short a reply.
+pub fn index_between(slots: &[u8], area: usize, from: i64, to: i64, out: &mut [u8]) -> u32 {
+    unsafe {
+        linked::yuglasno_index_between(slots.as_ptr(), slots.len(), area, from, to, out.as_mut_ptr(), out.len())
+    }
+}
+
+/// Writes whether there is an entry at or before `time`, and the rank of the latest: 0, or 3 as before.
+pub fn index_latest(slots: &[u8], area: usize, time: i64, out: &mut [u8]) -> u32 {
+    unsafe { linked::yuglasno_index_latest(slots.as_ptr(), slots.len(), area, time, out.as_mut_ptr(), out.len()) }
+}
+
+/// Writes the entry of this rank in time order: whether there is one, where its name starts in the area and how long it is, its number in
+/// listing order, its time. 0, or 3 as before, or for a name outside those that the area holds.
+pub fn index_entry(slots: &[u8], area: usize, rank: usize, out: &mut [u8]) -> u32 {
+    unsafe { linked::yuglasno_index_entry(slots.as_ptr(), slots.len(), area, rank, out.as_mut_ptr(), out.len()) }
 }

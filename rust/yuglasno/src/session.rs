@@ -16,6 +16,8 @@ use std::{fmt, io};
 pub struct Session<R, M = R> {
     record: [u8; RECORD],
     reply: [u8; REPLY],
+    /// The number that came with the reply.
+    told: u32,
     asked: Option<Ask>,
     rx: R,
     msg: M,
@@ -53,7 +55,7 @@ impl<R: AsMut<[u8]>, M: AsMut<[u8]>> Session<R, M> {
     pub fn open_with(settings: &Settings, banner: &[u8], mut rx: R, mut msg: M) -> Result<Self, Error> {
         let mut record = [0; RECORD];
         match raw::open(&mut record, settings.as_bytes(), banner, rx.as_mut().len(), msg.as_mut().len()) {
-            0 => Ok(Self { record, reply: [0; REPLY], asked: None, rx, msg }),
+            0 => Ok(Self { record, reply: [0; REPLY], told: 0, asked: None, rx, msg }),
             number => Err(settings.refused(number)),
         }
     }
@@ -121,6 +123,7 @@ impl<R: AsMut<[u8]>, M: AsMut<[u8]>> Session<R, M> {
 
     /// Reads a reply, and keeps what is asked. A refusal leaves that as it was.
     fn noted(&mut self, told: u32) -> Reply {
+        self.told = told;
         let reply = heard(told, &self.reply);
         match reply {
             Reply::Ask(ask) => self.asked = Some(ask),
@@ -160,6 +163,11 @@ impl<R: AsMut<[u8]>, M: AsMut<[u8]>> Session<R, M> {
             Some(Ask::WriteBytes(bytes)) => bytes.as_slice(),
             _ => &[],
         }
+    }
+
+    /// What the library returned last, what it wrote then, and the receive buffer: an index takes an entry from these.
+    pub(crate) fn last(&mut self) -> (u32, &[u8; REPLY], &[u8]) {
+        (self.told, &self.reply, self.rx.as_mut())
     }
 
     /// The answer of this number that the last reply carries.

@@ -3,6 +3,7 @@
 use crate::answer::{Answer, Details};
 use crate::call::Call;
 use crate::error::Error;
+use crate::index::Index;
 use crate::link::Link;
 use crate::numbers::{FileMode, SyncFlags};
 use crate::runs::Ended;
@@ -150,22 +151,53 @@ impl<R: AsMut<[u8]>, M: AsMut<[u8]>> Session<R, M> {
         path: impl AsRef<[u8]>,
         mut each: impl FnMut(&[u8], Details),
     ) -> Result<u64, Error> {
-        let path = path.as_ref();
+        self.listed(link, path.as_ref(), |session| session.entry().map(|(name, details)| each(name, details)).is_some())
+    }
+
+    /// The same, with each entry added to an index; the listing itself, and what it answers, is as without one. `each` is told besides
+    /// what became of the entry there: 19 where the index has no room for it. See [`Index`].
+    pub fn entries_into<A: AsRef<[u8]> + AsMut<[u8]>>(
+        &mut self,
+        link: &mut (impl Link + ?Sized),
+        path: impl AsRef<[u8]>,
+        index: &mut Index<A>,
+        mut each: impl FnMut(&[u8], Details, Result<(), Error>),
+    ) -> Result<u64, Error> {
+        self.listed(link, path.as_ref(), |session| {
+            let added = index.add(session);
+            session.entry().map(|(name, details)| each(name, details, added)).is_some()
+        })
+    }
+
+    /// A listing, of which `each` looks at every reply and says whether it was an entry. How many there were.
+    fn listed(
+        &mut self,
+        link: &mut (impl Link + ?Sized),
+        path: &[u8],
+        mut each: impl FnMut(&mut Self) -> bool,
+    ) -> Result<u64, Error> {
         let (mut ended, v2) = self.either(link, &Call::ListV2(path), &Call::List(path));
         let next = if v2 { Call::NextEntryV2 } else { Call::NextEntry };
         let mut entries = 0;
         while ended.number == 0 {
             ended = self.run(link, &next);
             if ended.number == 0 {
-                match self.answered(0, None) {
-                    Ok(Answer::Entry(entry)) => each(entry.name, Details::V1(entry.stat)),
-                    Ok(Answer::EntryV2(entry)) => each(entry.name, Details::V2(entry.stat)),
-                    _ => return Ok(entries),
+                if !each(self) {
+                    return Ok(entries);
                 }
                 entries += 1;
             }
         }
         self.outcome(ended).map(|_| entries)
+    }
+
+    /// Name and numbers of the entry that the last reply carries; none at the listing's end.
+    fn entry(&mut self) -> Option<(&[u8], Details)> {
+        match self.answered(0, None) {
+            Ok(Answer::Entry(entry)) => Some((entry.name, Details::V1(entry.stat))),
+            Ok(Answer::EntryV2(entry)) => Some((entry.name, Details::V2(entry.stat))),
+            _ => None,
+        }
     }
 
     /// A file's numbers, by stat_v2 or stat.

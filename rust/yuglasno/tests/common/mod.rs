@@ -1,6 +1,7 @@
 //! A scripted link, and the bytes of replies, written out by hand from file_sync_protocol.h's offsets.
 #![allow(dead_code)]
 pub mod archives;
+pub mod dated;
 pub mod fake;
 pub mod letters;
 pub mod program;

@@ -1,5 +1,6 @@
 //! A session from its opening on: steps that a host would take, and wild ones.
 use crate::crossing::{fault, refused, Function, Slices};
+use crate::index::{self, Beside};
 use crate::lent::Lent;
 use crate::opening::opened;
 use crate::random::Random;
@@ -22,14 +23,17 @@ pub struct Episode<'c> {
     over: bool,
     call: u32,
     incoming: Vec<u8>,
+    /// An index that is handed the replies of the session, in some of the episodes.
+    beside: Option<Beside>,
 }
 
 impl<'c> Episode<'c> {
     /// Up to 80 steps after an opening.
     pub fn run(mut random: Random, counts: &'c mut Counts) -> Result<(), String> {
         let Some((slices, ids)) = opened(&mut random, counts)? else { return Ok(()) };
-        let mut episode =
-            Self { random, counts, slices, ids, asked: 0, altered: false, over: false, call: 0, incoming: Vec::new() };
+        let beside = if random.one_in(4) { Some(Beside::opened(&mut random, counts)?) } else { None };
+        let (asked, altered, over, call, incoming) = (0, false, false, 0, Vec::new());
+        let mut episode = Self { random, counts, slices, ids, asked, altered, over, call, incoming, beside };
         for _ in 0..episode.random.below(80) {
             if episode.over && episode.random.one_in(2) {
                 break;
@@ -39,6 +43,7 @@ impl<'c> Episode<'c> {
             } else {
                 episode.live()?;
             }
+            episode.indexed()?;
         }
         Ok(())
     }
@@ -58,7 +63,29 @@ impl<'c> Episode<'c> {
             return Err(format!("{function:?} is awaited and was answered {}", number >> 8));
         }
         self.over |= [6 << 8, 15 << 8, 17 << 8].contains(&number);
-        self.kept(number)
+        self.kept(number)?;
+        match &mut self.beside {
+            Some(beside) => beside.add(self.counts, number, &self.slices.out, &self.slices.rx),
+            None => Ok(()),
+        }
+    }
+
+    /// Queries of the index, and replies of any kind for it; now and then on one whose bytes were altered, which then is what it was.
+    fn indexed(&mut self) -> Result<(), String> {
+        let Some(beside) = &mut self.beside else { return Ok(()) };
+        let whole = self.random.one_in(4).then(|| beside.clone());
+        for _ in 0..if whole.is_some() { 1 + self.random.below(2) } else { 0 } {
+            beside.bent(&mut self.random);
+        }
+        for _ in 0..self.random.below(4) {
+            let long = self.random.one_in(12).then(|| index::long(&mut self.random));
+            let rx = long.as_ref().unwrap_or(&self.slices.rx);
+            let (told, reply) = index::reply(&mut self.random, rx.bytes().len());
+            beside.add(self.counts, told, &reply, rx)?;
+            beside.queried(&mut self.random, self.counts)?;
+        }
+        self.beside = whole.or(self.beside.take());
+        Ok(())
     }
 
     /// A session that was not turned away is not turned away at its next call either.

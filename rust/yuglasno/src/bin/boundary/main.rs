@@ -1,11 +1,14 @@
 //! The exported functions under any input: `boundary CALLS SEED`. Sessions are run with random calls and reports; between
 //! their steps, and on copies of them, the functions are called with records, buffers, paths, call numbers, flags and
-//! counts of any value. Settings and ids files are of any kind too. Every crossing is checked: see `crossing.rs`. Exit status 1 at the first fault.
+//! counts of any value. Settings and ids files are of any kind too, and so are the slots of an index, and the replies that it is handed. Every
+//! crossing is checked: see `crossing.rs`, and `index.rs`. Exit status 1 at the first fault.
 #![forbid(unsafe_code)]
 
 mod crossing;
 mod episode;
+mod index;
 mod lent;
+mod model;
 mod opening;
 mod random;
 mod stream;
@@ -25,6 +28,8 @@ pub struct Counts {
     pub asked: [u64; 6],
     /// Calls on a record that was altered.
     pub altered: u64,
+    /// Calls of an index.
+    pub indexed: u64,
 }
 
 fn main() -> ExitCode {
@@ -53,14 +58,14 @@ fn print(counts: &Counts, seed: u64) {
     let met = counts.answered.iter().enumerate().filter(|(_, n)| **n > 0);
     let each: Vec<String> = met.map(|(number, n)| format!("{number}: {n}")).collect();
     println!("answers by number: {}", each.join(", "));
-    println!("on records that were altered: {} calls", counts.altered);
+    println!("on records that were altered: {} calls; of an index: {} calls", counts.altered, counts.indexed);
     println!(
         "{} calls (seed {seed}): {} opened, {} refused, {} answered, {} asked for reads, {} for writes, {} for the close; \
          no byte out of place, no part outside its slice",
         counts.calls,
         counts.opened,
-        sum(&counts.answered[1..12]) + sum(&counts.answered[22..]),
-        counts.answered[0] + sum(&counts.answered[12..22]),
+        sum(&counts.answered[1..12]) + sum(&counts.answered[19..]),
+        counts.answered[0] + sum(&counts.answered[12..19]),
         counts.asked[1],
         sum(&counts.asked[2..5]),
         counts.asked[5],

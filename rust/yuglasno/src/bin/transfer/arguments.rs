@@ -1,5 +1,7 @@
 //! The command line: options in any place, and the command's words.
 use crate::archive::Order;
+use crate::by_time::{Times, Which};
+use crate::times::{moment, Edge};
 use std::ffi::{OsStr, OsString};
 use std::os::unix::ffi::{OsStrExt, OsStringExt};
 use std::path::PathBuf;
@@ -41,10 +43,10 @@ pub enum Place {
     },
 }
 
-/// A FILE that is `-` is standard input or output.
+/// A FILE that is `-` is standard input or output. A listing has all entries, unless it says which.
 pub enum Command {
     Stat(Vec<u8>),
-    List(Vec<u8>),
+    List { path: Vec<u8>, which: Option<Which> },
     Pull { path: Vec<u8>, file: PathBuf },
     Push { file: PathBuf, path: Vec<u8>, mode: Option<FileMode> },
     Archive(Order),
@@ -79,6 +81,7 @@ struct Given {
     capacity: Option<usize>,
     ids: Option<PathBuf>,
     recursive: bool,
+    times: Times,
     words: Vec<OsString>,
 }
 
@@ -119,6 +122,9 @@ impl Given {
             b"--capacity" => self.capacity = Some(capacity(words)?),
             b"--ids" => self.ids = Some(needed(words, "--ids", "FILE")?.into()),
             b"--recursive" => self.recursive = true,
+            b"--from" => self.times.from = Some(time(words, "--from", Edge::First)?),
+            b"--to" => self.times.to = Some(time(words, "--to", Edge::Last)?),
+            b"--latest" => self.times.latest = Some(time(words, "--latest", Edge::Last)?),
             _ => return Err(format!("no option {}; behind -- a word may begin with -", option.display())),
         }
         Ok(())
@@ -129,9 +135,13 @@ impl Given {
             return Err(format!("a command is wanted: {}", names()));
         };
         let bytes = |word: &OsString| word.as_bytes().to_vec();
+        let which = self.times.which()?;
+        if which.is_some() && name != "ls" {
+            return Err("--from, --to and --latest go with ls".into());
+        }
         match (name.as_bytes(), words) {
             (b"stat", [path]) => Ok(Command::Stat(bytes(path))),
-            (b"ls", [path]) => Ok(Command::List(bytes(path))),
+            (b"ls", [path]) => Ok(Command::List { path: bytes(path), which }),
             (b"pull", [path, file]) => Ok(Command::Pull { path: bytes(path), file: file.into() }),
             (b"push", [file, path, octal @ ..]) if octal.len() < 2 => {
                 let mode = octal.first().map(|octal| mode(octal)).transpose()?;
@@ -239,6 +249,12 @@ fn capacity(words: &mut impl Iterator<Item = OsString>) -> Result<usize, String>
         length if length <= MOST => Ok(length),
         length => Err(format!("--capacity wants a number up to {MOST}, and not {length}")),
     }
+}
+
+/// A moment, in Unix seconds.
+fn time(words: &mut impl Iterator<Item = OsString>, option: &str, edge: Edge) -> Result<i64, String> {
+    let word = text(words, option, "a time")?;
+    moment(&word, edge).map_err(|why| format!("{option} wants a time, and {word:?} is {why}"))
 }
 
 /// A time from a millisecond on.

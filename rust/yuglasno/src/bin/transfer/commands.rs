@@ -5,9 +5,9 @@ use crate::progress::Progress;
 use crate::say::{say, shown};
 use crate::stop::{Stop, NOT_THERE};
 use crate::target::Target;
-use crate::{check, pull, push};
+use crate::{by_time, check, pull, push};
 use std::io::{self, Write};
-use yuglasno::{Details, Shown};
+use yuglasno::{Details, Error, Shown};
 
 /// Where a pull goes, before the panel is asked; none for standard output and for the other commands.
 pub fn target(command: &Command) -> Result<Option<Target>, Stop> {
@@ -24,7 +24,8 @@ pub fn run(peer: &mut Peer<'_>, command: &Command, target: Option<&Target>, said
             let details = peer.details(path)?;
             numbers(said, &details).map_err(|e| Stop::output(&e))
         }
-        Command::List(path) => list(peer, path, said),
+        Command::List { path, which: None } => list(peer, path, said),
+        Command::List { path, which: Some(which) } => by_time::list(peer, path, *which, said),
         Command::Pull { path, .. } => pulled(peer, path, target, said),
         Command::Push { file, path, mode } => {
             let bytes = if command.takes_stdio() {
@@ -60,20 +61,26 @@ fn numbers(said: &mut dyn Write, details: &Details) -> io::Result<()> {
 fn list(peer: &mut Peer<'_>, path: &[u8], said: &mut dyn Write) -> Result<(), Stop> {
     let mut written = Ok(());
     let mut entries = 0;
-    let listed = peer.session.entries(peer.link, path, |name, details| {
+    let done = peer.session.entries(peer.link, path, |name, details| {
         entries += 1;
         if written.is_ok() {
             written = entry(said, name, &details);
         }
     });
-    listed.map_err(|e| Stop::from(e).about(format_args!("{}, after {entries} entries", Shown(path))))?;
-    if entries == 0 {
-        return Err(unlisted(peer, path)?);
-    }
+    listed(peer, path, done, entries)?;
     written.map_err(|e| Stop::output(&e))
 }
 
-fn entry(said: &mut dyn Write, name: &[u8], details: &Details) -> io::Result<()> {
+/// What a listing came to, after so many entries.
+pub fn listed(peer: &mut Peer<'_>, path: &[u8], done: Result<u64, Error>, entries: usize) -> Result<(), Stop> {
+    done.map_err(|e| Stop::from(e).about(format_args!("{}, after {entries} entries", Shown(path))))?;
+    if entries == 0 {
+        return Err(unlisted(peer, path)?);
+    }
+    Ok(())
+}
+
+pub fn entry(said: &mut dyn Write, name: &[u8], details: &Details) -> io::Result<()> {
     let (mode, size, mtime) = (details.mode(), details.size(), details.mtime());
     write!(said, "{:>6} {size:>10} {mtime:>10} {}", mode.to_string(), Shown(name))?;
     match details.error() {

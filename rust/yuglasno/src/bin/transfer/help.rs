@@ -9,6 +9,8 @@ usage: transfer [WHERE] [OPTIONS] COMMAND
 commands:
   stat PATH                         a file's numbers
   ls PATH                           a folder's entries: mode, size, time in Unix seconds, name
+  ls [--from A] [--to B] PATH       those of its entries from time A to time B, in time order
+  ls --latest T PATH                the latest of its entries at or before time T; of equal times the first listed
   pull PATH FILE                    the panel's PATH to FILE, or into the folder FILE
   push FILE PATH [MODE]             FILE to the panel's PATH, with its permission bits or an octal MODE
   archive FOLDER DIR [--recursive]  each regular file of the panel's FOLDER to DIR, unless DIR holds it already, with DIR/SHA256SUMS
@@ -34,6 +36,12 @@ environment, as adb has it: ANDROID_SERIAL; ADB_SERVER_SOCKET, or ANDROID_ADB_SE
 
 A pull writes to a file of its own in FILE's folder, which gets FILE's name when it is on disk and the panel's numbers from
 before and after agree with its bytes. A push is cut off where FILE changes meanwhile.
+
+A, B and T are Unix seconds, such as 892000000 or -5, or UTC: 1998-04-12, 1998-04-12T12:30 or 1998-04-12T12:30:59, also with a blank for
+the T. A is the first second of such a day or minute, B and T are its last: --from 1998-04-12 --to 1998-04-12 is that day. Either of A and
+B may be left out. Any entry that ls prints may be the answer, folders, . and .. too; --to T has what is before the latest, too. Where
+there is no such entry nothing is printed, with status 0. Of a folder with more than 4096 entries, or 65536 bytes of names, those for which
+there was no room are not looked at: status 19 then, behind the lines of the others.
 
 An ids file has two lines that end with byte 10: the published ids in this order, joined by commas, and what this panel has for each,
 four bytes from 33 to 126, no comma, and no two the same. It is read before anything else; 22 or 23 where it is not such a file.

@@ -3,6 +3,7 @@
 
 mod archive;
 mod arguments;
+mod by_time;
 mod check;
 mod commands;
 mod help;
@@ -18,6 +19,7 @@ mod say;
 mod signals;
 mod stop;
 mod target;
+mod times;
 
 use arguments::{Command, Place, Plan, Request};
 use panel::Panel;
