@@ -119,7 +119,9 @@ use Rattle.time_index.specs.Logged.{LoggedClaim}
 use Rattle.time_index.proofs.Facts as IndexRows
 use Rattle.time_index.proofs.Index as Indexed
 use Rattle.time_index.proofs.Logged as IndexLogged
+use Rattle.claims.specs.WholeSlots as SlotFacts
 use Rattle.claims.proofs.Loading as Loading
+use Rattle.claims.proofs.WholeSlots as SlotRows
 
 -- ---- the exported functions
 
@@ -324,11 +326,11 @@ pub queries-hold : Hold IndexFacts.spans × Hold IndexFacts.latests
 queries-hold = (IndexRows.spans-hold, IndexRows.latests-hold)
 
 -- ... its limits and its bytes
-pub slots-hold : Hold IndexFacts.rooms × Hold IndexFacts.indexes × Hold IndexFacts.slots × Hold IndexFacts.ranks × Hold IndexFacts.told
-slots-hold = (IndexRows.rooms-hold, IndexRows.indexes-hold, IndexRows.slots-hold, IndexRows.ranks-hold, IndexRows.told-holds)
+pub slots-hold : Hold IndexFacts.rooms × Hold IndexFacts.slots × Hold IndexFacts.ranks × Hold IndexFacts.told × Hold IndexFacts.seeking
+slots-hold = (IndexRows.rooms-hold, IndexRows.slots-hold, IndexRows.ranks-hold, IndexRows.told-holds, IndexRows.seeking-holds)
 
-pub asking-holds : Hold IndexFacts.opening × Hold IndexFacts.asking × Hold IndexFacts.seeking
-asking-holds = (IndexRows.opening-holds, IndexRows.asking-holds, IndexRows.seeking-holds)
+pub asking-holds : Hold SlotFacts.indexes × Hold SlotFacts.opening × Hold SlotFacts.asking
+asking-holds = (SlotRows.indexes-hold, SlotRows.opening-holds, SlotRows.asking-holds)
 
 pub adding-holds : Hold IndexFacts.adding × Hold IndexFacts.turned × Hold IndexFacts.keeping × Hold IndexFacts.crossing
 adding-holds = (IndexRows.adding-holds, IndexRows.turned-hold, IndexRows.keeping-holds, IndexRows.crossing-holds)

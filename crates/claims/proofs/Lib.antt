@@ -1,5 +1,7 @@
 -- `Claims`: every theorem that is promised. `Exported`: what the twelve exported functions meet. `Loading`: a file that is loaded, at the opening.
 -- `Applied`: demand 3 at a host, and logs beside what the documents say. `Indexing`: the index at three replies.
+-- `WholeSlots`: facts on whole slots.
+pub mod WholeSlots
 pub mod Claims
 pub mod Exported
 pub mod Loading

@@ -4,7 +4,7 @@ use Rattle.protocol.specs.Bytes.{numberAt, signed, over, put}
 use Rattle.protocol.specs.Fact.{Hold}
 use Rattle.boundary.specs.Heard.{doneHeard}
 use Rattle.session.specs.Shown.{partOf}
-use Rattle.time_index.specs.Crossing.{hasSlot, offeredBy, added, crossIndexOpen, crossIndexAdd, crossIndexBetween, crossIndexLatest, crossIndexEntry}
+use Rattle.time_index.specs.Crossing.{hasSlot, offeredBy, added, crossIndexAdd}
 use Rattle.time_index.specs.Facts as F
 use Rattle.time_index.specs.Index.{offered, hasRoom, taken, answered, inserted, inTime, keep, between, latest}
 use Rattle.time_index.specs.Slots.{isIndex, ranks, slotAmong, slotsWith}
@@ -40,10 +40,6 @@ pub slots-hold : Hold F.slots
 unfolding numberAt signed over ranks slotAmong slotsWith
 slots-hold = refl
 
-pub indexes-hold : Hold F.indexes
-unfolding numberAt isIndex
-indexes-hold = refl
-
 pub ranks-hold : Hold F.ranks
 unfolding numberAt signed ranks
 ranks-hold = refl
@@ -67,14 +63,6 @@ keeping-holds = refl
 pub crossing-holds : Hold F.crossing
 unfolding numberAt isIndex doneHeard partOf offered offeredBy hasSlot added crossIndexAdd
 crossing-holds = refl
-
-pub opening-holds : Hold F.opening
-unfolding over crossIndexOpen
-opening-holds = refl
-
-pub asking-holds : Hold F.asking
-unfolding numberAt signed over put isIndex ranks crossIndexBetween crossIndexLatest crossIndexEntry
-asking-holds = refl
 
 pub seeking-holds : Hold F.seeking
 unfolding numberAt over put

@@ -15,10 +15,10 @@ use Rattle.protocol.specs.Bytes.{ascii}
 use Rattle.protocol.specs.Fact.{Fact}
 use Rattle.protocol.specs.Records.{Stat2}
 use Rattle.time_index.specs.Index.{Item, item, Offer, entry, nothing, unknown, offered, noLater, heldAfter, answeredTo, between, latest}
-use Rattle.time_index.specs.Slots.{headed, isIndex, timeAt, slotOf, slotsWith, upTo, below}
-use Rattle.time_index.specs.Crossing.{Indexed, hasSlot, offeredBy, added, entryWords, entryIn, latestOf, crossIndexOpen, crossIndexAdd, crossIndexBetween, crossIndexLatest, crossIndexEntry}
+use Rattle.time_index.specs.Slots.{headed, timeAt, slotOf, slotsWith, upTo, below}
+use Rattle.time_index.specs.Crossing.{Indexed, hasSlot, offeredBy, added, entryWords, entryIn, latestOf, crossIndexAdd}
 
-abbrev row : {A : Type 0} → A → A → Fact A
+abbrev pub row : {A : Type 0} → A → A → Fact A
 row c p = record { computed = c; paper = p }
 
 -- ---- entries of either version
@@ -179,7 +179,7 @@ rooms =
 
 -- ---- bytes: four numbers, the mark among them, then the slots in time order
 
-abbrev word : ℕ → List ℕ
+abbrev pub word : ℕ → List ℕ
 word n = n ∷ 0 ∷ 0 ∷ 0 ∷ 0 ∷ 0 ∷ 0 ∷ 0 ∷ []
 
 -- the time; where the name starts; 4,096 × length + number
@@ -192,7 +192,7 @@ slotB = word 3 ++ (1 ∷ 0 ∷ 0 ∷ 0 ∷ 1 ∷ 32 ∷ 0 ∷ 0 ∷ [])
 abbrev slotC : List ℕ
 slotC = word 5 ++ (3 ∷ 0 ∷ 0 ∷ 0 ∷ 2 ∷ 16 ∷ 0 ∷ 0 ∷ [])
 
-abbrev head : (count used : ℕ) → List ℕ
+abbrev pub head : (count used : ℕ) → List ℕ
 head n u = ascii "yugindex" ++ word 9 ++ word n ++ word u
 
 -- a at 5, then bb at 3, then c at 5, then one at -2: what stands behind the slots stays
@@ -207,23 +207,12 @@ slots =
     (head 4 4 ++ (254 ∷ 255 ∷ 255 ∷ 255 ∷ 255 ∷ 255 ∷ 255 ∷ 255 ∷ 4 ∷ 0 ∷ 0 ∷ 0 ∷ 3 ∷ 0 ∷ 0 ∷ 0 ∷ []) ++ slotB ++ slotA ++ slotC)
     ∷ []
 
-abbrev three : List ℕ
+abbrev pub three : List ℕ
 three = head 3 4 ++ slotB ++ slotA ++ slotC
 
--- slots that hold an index, and slots that hold none: names or entries past their limit, another mark, another length
-abbrev whole : (count used : ℕ) → List ℕ
+-- whole slots, beside an area of 9 bytes
+abbrev pub whole : (count used : ℕ) → List ℕ
 whole n u = head n u ++ replicate 65536 0
-
-abbrev pub indexes : List (Fact Bool)
-indexes =
-    row (isIndex (whole 4 9) 9) true
-    ∷ row (isIndex (whole 4 10) 9) false
-    ∷ row (isIndex (headed 70000 4 65536 ++ replicate 65536 0) 70000) true
-    ∷ row (isIndex (headed 70000 4 65537 ++ replicate 65536 0) 70000) false
-    ∷ row (isIndex (whole 4 9 ++ 0 ∷ []) 9) false
-    ∷ row (isIndex (ascii "yugindex" ++ word 9 ++ (1 ∷ 16 ∷ []) ++ replicate 6 0 ++ word 0 ++ replicate 65536 0) 9) false
-    ∷ row (isIndex (ascii "yugindez" ++ word 9 ++ word 0 ++ word 0 ++ replicate 65536 0) 9) false
-    ∷ []
 
 -- ranks in time order; the words of an entry and of the latest
 abbrev pub ranks : List (Fact ℕ)
@@ -320,32 +309,10 @@ crossing =
     ∷ row (seen (crossIndexAdd (whole 1 7) nine 0 (take 111 (reply 4 1 3 5)) rx)) (nine, 3)
     ∷ []
 
--- ---- opening and queries, as they cross
+-- ---- an entry by its rank
 
--- slots of another length are left alone; of the right one the first 32 bytes are written
-abbrev pub opening : List (Fact (List ℕ × ℕ))
-opening =
-    row (crossIndexOpen (replicate 40 7) 9) (replicate 40 7, 3)
-    ∷ row (take 40 (crossIndexOpen (replicate 65568 7) 9 .0), crossIndexOpen (replicate 65568 7) 9 .1) (head 0 0 ++ replicate 8 7, 0)
-    ∷ []
-
--- bb at 3, a at 5, c at 5, as they stand in whole slots beside an area of 9
-abbrev three′ : List ℕ
-three′ = three ++ replicate 65488 0
-
-abbrev out : List ℕ
+abbrev pub out : List ℕ
 out = replicate 112 46
-
--- how many and the first rank; another area, too short a slice
-abbrev pub asking : List (Fact (List ℕ × ℕ))
-asking =
-    row (crossIndexBetween three′ 9 (pos 3) (pos 5) out) (word 3 ++ word 0 ++ replicate 96 46, 0)
-    ∷ row (crossIndexBetween three′ 9 (pos 5) (pos 4) out) (word 0 ++ word 1 ++ replicate 96 46, 0)
-    ∷ row (crossIndexBetween three′ 8 (pos 3) (pos 5) out) (out, 3)
-    ∷ row (crossIndexBetween three′ 9 (pos 3) (pos 5) (replicate 111 46)) (replicate 111 46, 3)
-    ∷ row (crossIndexLatest three′ 9 (pos 5) out) (word 1 ++ word 1 ++ replicate 96 46, 0)
-    ∷ row (crossIndexEntry three′ 9 0 out) (word 1 ++ word 1 ++ word 2 ++ word 1 ++ word 3 ++ replicate 72 46, 0)
-    ∷ []
 
 -- no entry has that rank; a name that is none of those in the area
 abbrev pub seeking : List (Fact (List ℕ × ℕ))
