@@ -16,7 +16,7 @@ use Rattle.protocol.specs.Records.{idAt, argAt, statAt, dentAt, stat2Body, stat
 use Rattle.protocol.proofs.Bodies.{pick-cases}
 use Rattle.protocol.proofs.Bytes.{bytes-drop}
 use Rattle.protocol.proofs.Records.{signed-low, signed-high}
-use Rattle.protocol.proofs.Words.{bytes-take, le-below, word-fits}
+use Rattle.protocol.proofs.Words.{bytes-take, le-below, number-below}
 use Rattle.format_record.specs.Told.{statOf, stat2Of}
 use Rattle.format_record.specs.declared.DentV1.{DentV1}
 use Rattle.format_record.specs.declared.DentV2.{DentV2}
@@ -192,7 +192,7 @@ module _ (δ : Dialect) (c : ℕ) where
     unfolding wants turnAt dentAt dent2At
     turn-fit (Header w) n l b =
         let y : List ℕ = drop i rx in
-        rw (← id-in y, ← arg-in y) (headed-fit (idAt (take 8 y)) (argAt (take 8 y)) (bytes-take 4 (take 8 y) b) (word-fits (take 8 y) 4 b) w)
+        rw (← id-in y, ← arg-in y) (headed-fit (idAt (take 8 y)) (argAt (take 8 y)) (bytes-take 4 (take 8 y) b) (number-below 4 (take 8 y) 4 b) w)
     turn-fit (Stat V1) n l b = stops (omega arith) (dent-narrow (drop i rx) 0 b (omega arith), refl)
     turn-fit (Stat V2) n l b =
         record {

@@ -4,12 +4,11 @@ use mathlib.Core.List.{List, [], _∷_, _++_, append-nil}
 use mathlib.Core.Path.{_≡_, refl, sym, ap, _∙_}
 use Prim.Native.Nat.{ℕ, zero, suc, _+_, _-_, _*_, _≤_, _<_}
 use native.Mathlib.Decide.{ℕ-discrete}
-use native.Mathlib.Nat.{add-zero}
 use native.Mathlib.Numerals.{add-one}
 use native.Mathlib.Omega.{arith}
 use borrow.Author.Tests.{eq-eqb, ne-eqb}
 use lib.Dec.{eqb}
-use lib.ListN.{length, take, drop, getD, set, replicate, length-drop, length-replicate, take-append-drop, replicate-append-replicate}
+use lib.ListN.{length, take, drop, getD, set, replicate, length-drop, length-replicate, replicate-append-replicate}
 use lib.Seq.{drop-cons, drop-drop, drop-length, getD-drop, length-take-le, set-at, append-snoc}
 use Rattle.protocol.specs.Bytes.{Bytes, same, le, bytesOf, numberAt, whole, over, put}
 use Rattle.protocol.specs.Ids.{isLetter, isValue}
@@ -82,10 +81,6 @@ word-back s at p h =
     rw (word-in s at h) (rw (length-four s at h) at b)
 
 -- values put one behind the other
-pub over-none : (b : List ℕ) (at : ℕ) → over b at [] ≡ b
-unfolding over
-over-none b at = rw (append-nil, add-zero) (take-append-drop at b)
-
 pub over-next : (b : List ℕ) (at : ℕ) (v : List ℕ) (vs : List (List ℕ)) → length v ≡ 4 → at + 4 ≤ length b
     → over (over b at v) (at + 4) (joined vs) ≡ over b at (joined (v ∷ vs))
 over-next b at v vs e h = rw (← e) (over-over b at v (omega arith) (joined vs))

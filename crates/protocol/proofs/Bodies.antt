@@ -25,7 +25,7 @@ use Rattle.protocol.specs.Requests.{Read, more, refused, request, Kind, 
 use Rattle.protocol.proofs.Bytes.{same-refl, same-eq}
 use Rattle.protocol.proofs.Messages.{kind-path}
 use Rattle.protocol.proofs.Modes.{Written, decimal-mode, mode-written, decimal-text}
-use Rattle.protocol.proofs.Words.{word-fits, word-behind, number-behind, word-there, word-last}
+use Rattle.protocol.proofs.Words.{number-below, word-behind, number-behind, word-there, word-last}
 
 -- what the panel takes: what the host writes, and DATA of length 0
 abbrev pub Taken : Dialect → Request → Type 0
@@ -125,7 +125,7 @@ module _ (d : Dialect) where
       (λ passed.
       let (path, inner, pass) = tests-passed d (take n b) (take 4 (drop n b)) (d .bytes RCV2) true f passed in
       let there = inner-there b n (d .bytes RCV2) (word f ++ []) inner (word-last b (n + 4) (n + 8) h (omega arith) e) in
-      (inl (path, (pass, word-fits b (n + 4) h)), by-host (rw (length-take-le n b (omega arith), there)), rw e))
+      (inl (path, (pass, number-below 4 b (n + 4) h)), by-host (rw (length-take-le n b (omega arith), there)), rw e))
 
   means-mode-flags : (n : ℕ) (b : List ℕ) → Bytes b → length b ≡ n + 12 → Means d SND2 n b (bodyOf d pathModeFlags n b)
   unfolding bodyOf bytesOfRequest messageOf
@@ -139,7 +139,7 @@ module _ (d : Dialect) where
       let last = word-last b (n + 8) (n + 12) h (omega arith) e in
       let words = ap (λ (t : List ℕ). word m ++ t) last ∙ word-there b (n + 4) (n + 8) h (omega arith) (omega arith) in
       let there = inner-there b n (d .bytes SND2) (word m ++ (word f ++ [])) inner words in
-      (inl (path, (word-fits b (n + 4) h, (pass, word-fits b (n + 8) h))), by-host (rw (length-take-le n b (omega arith), there)), rw e))
+      (inl (path, (number-below 4 b (n + 4) h, (pass, number-below 4 b (n + 8) h))), by-host (rw (length-take-le n b (omega arith), there)), rw e))
 
   -- a SEND's text, by what its mode is written in
   text-form : (p t b : List ℕ) (m n : ℕ) → p ++ 44 ∷ t ≡ b → length b ≡ n → Written t m → Form d (send p m) (d .bytes SEND ++ word n ++ b)
@@ -233,7 +233,7 @@ module _ (d : Dialect) (sound : Sound d) (small : d .longest + 11 < 0x1_0000_000
       let x = d .bytes RCV2 in
       let t = word f ++ [] in
       let four = sound .four RCV2 in
-      let flags : numberAt 4 (length p + 4) (p ++ (x ++ t)) ≡ f = number-behind p (x ++ t) 4 ∙ word-behind x 4 f [] four (h .1 .1) in
+      let flags : numberAt 4 (length p + 4) (p ++ (x ++ t)) ≡ f = number-behind 4 p (x ++ t) 4 ∙ word-behind x 4 f [] four (h .1 .1) in
       let passes = tests-pass d p x true f (h .0) (h .1 .0) in
       record {
         fits = omega arith;
@@ -250,9 +250,9 @@ module _ (d : Dialect) (sound : Sound d) (small : d .longest + 11 < 0x1_0000_000
       let t = word m ++ (word f ++ []) in
       let four = sound .four SND2 in
       let eight : length (x ++ word m) ≡ 8 = omega (arith, length-append x (word m)) in
-      let mode : numberAt 4 (length p + 4) (p ++ (x ++ t)) ≡ m = number-behind p (x ++ t) 4 ∙ word-behind x 4 m (word f ++ []) four (h .1 .0) in
+      let mode : numberAt 4 (length p + 4) (p ++ (x ++ t)) ≡ m = number-behind 4 p (x ++ t) 4 ∙ word-behind x 4 m (word f ++ []) four (h .1 .0) in
       let flags : numberAt 4 (length p + 8) (p ++ (x ++ t)) ≡ f =
-      number-behind p (x ++ t) 8
+      number-behind 4 p (x ++ t) 8
       ∙ ap (numberAt 4 8) (sym (append-assoc x (word m) (word f ++ [])))
       ∙ word-behind (x ++ word m) 8 f [] eight (h .1 .1 .1) in
       let passes = tests-pass d p x false f (h .0) (h .1 .1 .0) in

@@ -1,5 +1,5 @@
 -- Laws of `specs/Bytes.antt`: numbers as bytes, lists compared, bytes put over others. Assumes nothing.
-use mathlib.Core.Bool.{Bool, true, false, _&&_}
+use mathlib.Core.Bool.{Bool, true, false}
 use mathlib.Core.List.{List, [], _∷_, _++_, append-assoc, append-nil}
 use mathlib.Core.Path.{_≡_, refl, sym, ap, _∙_}
 use Prim.Native.Nat.{ℕ, zero, suc, _+_, _-_, _*_, _≤_, _<_, _/_, _%_, _^_}
@@ -9,9 +9,9 @@ use native.Mathlib.Omega.{arith}
 use borrow.Author.Tests.{le-leb, lt-leb, eq-eqb, ne-eqb}
 use lib.Arith.{mod-mul, digits-div, digits-mod}
 use lib.Dec.{eqb}
-use lib.ListN.{length, take, drop, getD, set, length-append, length-take, length-drop, drop-of-length-le, take-append-drop}
-use lib.Seq.{drop-cons, sets, sets-eq, paste, take-length, length-take-le, take-all, take-at, drop-append-add, drop-drop}
-use Rattle.protocol.specs.Bytes.{pick, Bytes, same, has, le, bytesOf, numberAt, whole, over, put, putLength}
+use lib.ListN.{length, take, drop, getD, set, length-append, length-drop, drop-of-length-le, take-append-drop}
+use lib.Seq.{drop-cons, sets-eq, paste, take-length, length-take-le, take-all, take-at, take-append-seam, drop-at, drop-append-add, drop-drop}
+use Rattle.protocol.specs.Bytes.{pick, Bytes, same, has, le, bytesOf, whole, over, put, putLength}
 
 -- lists compared
 pub same-refl : (s : List ℕ) → same s s ≡ true
@@ -130,6 +130,11 @@ pub paste-over : (b : List ℕ) (off : ℕ) (m : List ℕ) → paste b off m (le
 unfolding over
 paste-over b off m = rw (take-length m)
 
+-- nothing put over a list
+pub over-none : (b : List ℕ) (at : ℕ) → over b at [] ≡ b
+unfolding over
+over-none b at = rw (append-nil, add-zero) (take-append-drop at b)
+
 module _ (b : List ℕ) (at : ℕ) (m : List ℕ) (fits : at + length m ≤ length b) where
   over-front : length (take at b ++ m) ≡ at + length m
   over-front = simp (length-append, length-take-le at b (omega arith))
@@ -149,6 +154,16 @@ module _ (b : List ℕ) (at : ℕ) (m : List ℕ) (fits : at + length m ≤ leng
       ∙ ap (λ (l : List ℕ). p ++ n ++ l) (ap (λ (j : ℕ). drop j (p ++ drop k b)) e ∙ drop-append-add p (drop k b) (length n) ∙ drop-drop (length n) k b)
       ∙ ap (λ (l : List ℕ). l ++ drop (k + length n) b) (append-assoc (take at b) m n)
       ∙ ap (λ (j : ℕ). take at b ++ (m ++ n) ++ drop j b) (add-assoc at (length m) (length n) ∙ ap (λ (j : ℕ). at + j) (sym (length-append m n)))
+
+  -- what is put alters nothing before it, and is read back there
+  pub over-before : take at (over b at m) ≡ take at b
+  unfolding over
+  over-before = rw append-assoc (take-at (take at b) (m ++ drop (at + length m) b) at (length-take-le at b (omega arith)))
+
+  pub over-there : take (length m) (drop at (over b at m)) ≡ m
+  unfolding over
+  over-there =
+      rw (append-assoc, drop-at (take at b) (m ++ drop (at + length m) b) at (length-take-le at b (omega arith))) (take-append-seam m (drop (at + length m) b))
 
   -- the two cases of `put` and `putLength`
   pub put-in : put b at m ≡ over b at m

@@ -25,7 +25,7 @@ use Rattle.protocol.proofs.Messages.{kind-path}
 use Rattle.protocol.proofs.Modes.{octal-text, octal-mode, octal-canonical}
 use Rattle.protocol.proofs.Bytes.{bytes-drop}
 use Rattle.protocol.proofs.Ids.{named-own, named-sound}
-use Rattle.protocol.proofs.Words.{bytes-take, word-fits, word-behind, word-there}
+use Rattle.protocol.proofs.Words.{bytes-take, number-below, word-behind, word-there}
 
 -- the reader's steps behind a header of a known id
 module _ (d : Dialect) (s : List ℕ) (i : Id) (long : 8 ≤ length s) (e : named d (idAt s) ≡ some i) (ok : argOk d (kindOf i) (argAt s) ≡ true) where
@@ -170,7 +170,7 @@ module _ (d : Dialect) (sound : Sound d) (s : List ℕ) (h : Bytes s) where
   whole-means : (i : Id) (k : ℕ) → following (kindOf i) (argAt s) ≡ k → argOk d (kindOf i) (argAt s) ≡ true → headerSize + k ≤ length s
       → Means d i (argAt s) (take k (drop headerSize s)) (bodyOf d (kindOf i) (argAt s) (take k (drop headerSize s)))
   whole-means i k e ok whole =
-      means d i (argAt s) (take k (drop headerSize s)) (bytes-take k (drop headerSize s) (bytes-drop headerSize s h)) (word-fits s 4 h) ok
+      means d i (argAt s) (take k (drop headerSize s)) (bytes-take k (drop headerSize s) (bytes-drop headerSize s h)) (number-below 4 s 4 h) ok
       (rest-length s k whole ∙ sym e)
 
   accepts : Accepts d s (readRequest d s)

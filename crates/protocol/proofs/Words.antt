@@ -1,4 +1,4 @@
--- Laws of numbers of four bytes, of those where they stand in a list (`specs/Records.antt`) and of those written (`word` of
+-- Laws of numbers where they stand in a list (`specs/Records.antt`), and of those of four bytes that are written (`word` of
 -- `specs/Messages.antt`): what was written is read back, and what is read was written so. Assumes nothing.
 use Prim.Native.Nat.{ℕ, zero, suc, _+_, _≤_, _<_, _^_}
 use mathlib.Core.List.{List, [], _∷_, _++_}
@@ -22,18 +22,19 @@ le-below zero s b = omega arith
 le-below (suc k) [] b = omega (arith, le-below k [] b)
 le-below (suc k) (x ∷ s) b = omega (arith, bytes-head x s b, le-below k s (bytes-tail x s b))
 
-pub word-fits : (b : List ℕ) (off : ℕ) → Bytes b → numberAt 4 off b < 0x1_0000_0000
+pub number-below : (k : ℕ) (b : List ℕ) (off : ℕ) → Bytes b → numberAt k off b < 256 ^ k
 unfolding numberAt
-word-fits b off h = le-below 4 (drop off b) (bytes-drop off b h)
+number-below k b off h = le-below k (drop off b) (bytes-drop off b h)
 
--- a word written behind x is read there, and in front of x may stand more
+-- a word written behind x is read there
 pub word-behind : (x : List ℕ) (off v : ℕ) (rest : List ℕ) → length x ≡ off → v < 0x1_0000_0000 → numberAt 4 off (x ++ (word v ++ rest)) ≡ v
 unfolding numberAt
 word-behind x off v rest e h = rw (drop-at x (word v ++ rest) off e) (le-bytesOf 4 v h)
 
-pub number-behind : (p t : List ℕ) (off : ℕ) → numberAt 4 (length p + off) (p ++ t) ≡ numberAt 4 off t
+-- a number behind some bytes
+pub number-behind : (k : ℕ) (p t : List ℕ) (off : ℕ) → numberAt k (length p + off) (p ++ t) ≡ numberAt k off t
 unfolding numberAt
-number-behind p t off = rw (drop-append-add p t off)
+number-behind k p t off = rw (drop-append-add p t off)
 
 -- four bytes that are there are those of the number that is read, and then comes what follows
 pub word-spelled : (b : List ℕ) (off : ℕ) → Bytes b → off + 4 ≤ length b → word (numberAt 4 off b) ≡ take 4 (drop off b)

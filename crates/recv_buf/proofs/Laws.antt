@@ -1,6 +1,6 @@
 -- Laws of `specs/RecvBuf.antt`: the cases of each definition, and what take, fill, compaction and holding do to the held bytes.
 -- Assumes nothing.
-use mathlib.Core.List.{List, _++_, append-assoc}
+use mathlib.Core.List.{List, _++_}
 use mathlib.Core.Path.{_≡_, refl, sym, ap, _∙_}
 use Prim.Native.Nat.{ℕ, suc, _+_, _-_, _≤_, _<_}
 use native.Mathlib.Decide.{decLe}
@@ -9,9 +9,9 @@ use native.Mathlib.Numerals.{add-one}
 use native.Mathlib.Omega.{arith}
 use borrow.Author.Tests.{le-leb, lt-leb, lt-ltb, le-ltb}
 use lib.ListN.{length, take, drop, getD, set, length-drop, take-append-drop}
-use lib.Seq.{length-take-le, take-append-seam, getD-append-add, getD-drop, drop-append-le, take-at, drop-at, take-add, drop-drop, length-front, paste-suc, slice, length-slice}
+use lib.Seq.{length-take-le, getD-append-add, getD-drop, drop-append-le, take-at, drop-at, take-add, drop-drop, length-front, paste-suc, slice, length-slice}
 use Rattle.protocol.specs.Bytes.{over}
-use Rattle.protocol.proofs.Bytes.{over-length}
+use Rattle.protocol.proofs.Bytes.{over-length, over-before, over-there}
 use Rattle.recv_buf.specs.RecvBuf.{cursor, heldCount, heldBytes, taken, filled, moved, compacted, holding}
 use Rattle.recv_buf.specs.declared.Hold.{Hold}
 use Rattle.recv_buf.specs.declared.Hold.the-variants.{TooLarge, Held, Read}
@@ -110,19 +110,6 @@ module _ (b : List ℕ) (c : RecvBuf) (s : Sound b c) (n : ℕ) (h : c .tail + n
       let f : c .head ≤ length (take (c .tail) b) = rw (length-take-le (c .tail) b (s .within)) (s .ordered) in
       held-in b (filled c n (length b)) filled-sound
       ∙ rw (filled-in c n (length b) h, held-in b c s, take-add (c .tail) n b, drop-append-le (c .head) (take (c .tail) b) (take n (drop (c .tail) b)) f)
-
--- what is put over a buffer alters nothing before it, and is read back there
-module _ (b : List ℕ) (at : ℕ) (m : List ℕ) (fits : at + length m ≤ length b) where
-  before-length : length (take at b) ≡ at
-  before-length = length-take-le at b (omega arith)
-
-  over-before : take at (over b at m) ≡ take at b
-  unfolding over
-  over-before = rw append-assoc (take-at (take at b) (m ++ drop (at + length m) b) at before-length)
-
-  pub over-there : take (length m) (drop at (over b at m)) ≡ m
-  unfolding over
-  over-there = rw (append-assoc, drop-at (take at b) (m ++ drop (at + length m) b) at before-length) (take-append-seam m (drop (at + length m) b))
 
 -- bytes that come into the window leave the held bytes as they were, and a fill of as many appends them
 module _ (b : List ℕ) (c : RecvBuf) (s : Sound b c) (m : List ℕ) (h : c .tail + length m ≤ length b) where

@@ -20,14 +20,14 @@ use Rattle.request_message.specs.Composed.{only, asked}
 use Rattle.protocol.specs.Messages as M
 use Rattle.protocol.specs.Messages.{header, nonempty, messageOf, bytesOfRequest, apart, pieces, dataMost}
 use Rattle.protocol.proofs.Bodies.{pick-cases}
-use Rattle.protocol.proofs.Bytes.{over-length, put-in}
+use Rattle.protocol.proofs.Bytes.{over-length, over-there, put-in}
 use Rattle.request_piece.specs.Pieces.{partsOf, pieceList, pieceOf, shown}
 use Rattle.request_piece.proofs.Laws.{pieces-shown}
 use Rattle.request_piece.specs.declared.Piece.{Piece}
 use Rattle.request_piece.specs.declared.Piece.the-variants.{End}
 use Rattle.recv_buf.specs.RecvBuf.{heldBytes}
 use Rattle.recv_buf.specs.declared.RecvBuf.{RecvBuf}
-use Rattle.recv_buf.proofs.Laws.{held-length, over-there, window-keeps, compacted-head}
+use Rattle.recv_buf.proofs.Laws.{held-length, window-keeps, compacted-head}
 use Rattle.request.specs.Meaning.{meant}
 use Rattle.request.specs.declared.Request.{Request}
 use Rattle.request.specs.declared.Request.the-variants as Q

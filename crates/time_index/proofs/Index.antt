@@ -11,8 +11,8 @@ use lib.ListN.{length, drop}
 use Rattle.protocol.specs.Answers as A
 use Rattle.protocol.specs.Answers.{Answer}
 use Rattle.protocol.specs.Bytes.{Bytes, pick, numberAt, over, put}
-use Rattle.protocol.proofs.Bytes.{bytes-drop, over-length}
-use Rattle.protocol.proofs.Words.{le-below}
+use Rattle.protocol.proofs.Bytes.{over-length}
+use Rattle.protocol.proofs.Words.{number-below}
 use Rattle.boundary.specs.Heard.{at, doneHeard}
 use Rattle.boundary.specs.Told.{outSize}
 use Rattle.boundary.proofs.Heard.{at-words}
@@ -50,7 +50,7 @@ timed-offer false o p h g = g
 module _ (reply rx : List ℕ) (bytes : Bytes reply) where
   wide : (i : ℕ) → at reply i < 2 ^ 64
   unfolding numberAt
-  wide i = le-below 8 (drop (8 * i) reply) (bytes-drop (8 * i) reply bytes)
+  wide i = number-below 8 reply (8 * i) bytes
 
   timed-told : (kind : ℕ) → Timed (offered (doneHeard kind reply rx))
   unfolding doneHeard partOf offered
@@ -221,7 +221,7 @@ module _ (s : List ℕ) (b : Bytes s) (n r : ℕ) (out : List ℕ) where
       → Within (put out 0 (words (entryWords s r)), 0)
   unfolding numberAt
   entry-within u m l h e =
-      let w = at-words out l (entryWords s r) (omega (arith, le-below 8 (drop (slotAt r) s) (bytes-drop (slotAt r) s b))) (omega arith) in
+      let w = at-words out l (entryWords s r) (omega (arith, number-below 8 s (slotAt r) b)) (omega arith) in
       rw (w 1 refl, w 2 refl) (omega arith)
 
   none-within : outSize ≤ length out → Within (put out 0 (words noWords), 0)

@@ -7,9 +7,9 @@ use native.Mathlib.Omega.{arith}
 use borrow.Author.Tests.{le-leb, eq-eqb}
 use lib.IntN.{ℤ}
 use lib.ListN.{length, take, drop, getD, length-append, length-map, length-drop, List·getD-map}
-use lib.Seq.{length-take-le, take-at, drop-at, drop-append-add, drop-drop}
+use lib.Seq.{take-at, drop-append-add, drop-drop}
 use Rattle.protocol.specs.Bytes.{pick, over}
-use Rattle.protocol.proofs.Bytes.{over-length}
+use Rattle.protocol.proofs.Bytes.{over-length, over-before, over-there}
 use Rattle.record.specs.Narrow.{I64}
 use Rattle.record.specs.Record.{words, wordOf}
 use Rattle.session.proofs.Buf.{part-take}
@@ -107,10 +107,6 @@ length-among (suc r) (q ∷ ps) p = ap suc (length-among r ps p)
 -- ---- the area
 
 module _ (area name : List ℕ) (used : ℕ) (h : used + length name ≤ length area) where
-  front-stays : take used (over area used name) ≡ take used area
-  unfolding over
-  front-stays = rw append-assoc (take-at (take used area) (name ++ drop (used + length name) area) used (length-take-le used area (omega arith)))
-
   -- a name that lies in front of what is written stays
   named-same : (ps : List Placed) → AllFit used ps → map (named (over area used name)) ps ≡ map (named area) ps
   named-same [] f = refl
@@ -119,19 +115,12 @@ module _ (area name : List ℕ) (used : ℕ) (h : used + length name ≤ length 
       part : (p : Placed) → p .start + p .size ≤ used → take (p .size) (drop (p .start) (over area used name)) ≡ take (p .size) (drop (p .start) area)
       part p g =
           sym (part-take (p .start) (p .size) used (over area used name) g)
-          ∙ ap (λ (l : List ℕ). take (p .size) (drop (p .start) l)) front-stays
+          ∙ ap (λ (l : List ℕ). take (p .size) (drop (p .start) l)) (over-before area used name h)
           ∙ part-take (p .start) (p .size) used area g
 
       go : take (p .size) (drop (p .start) (over area used name)) ≡ take (p .size) (drop (p .start) area)
           → map (named (over area used name)) ps ≡ map (named area) ps → map (named (over area used name)) (p ∷ ps) ≡ map (named area) (p ∷ ps)
       go e g = rw (e, g)
-
-  -- the name that is written
-  name-there : take (length name) (drop used (over area used name)) ≡ name
-  unfolding over
-  name-there =
-      rw (append-assoc, drop-at (take used area) (name ++ drop (used + length name) area) used (length-take-le used area (omega arith)))
-      (take-at name (drop (used + length name) area) (length name) refl)
 
   -- names end to end, and what stood behind them
   names-on : (front before : List ℕ) → length front ≡ used → area ≡ front ++ drop used before
@@ -273,7 +262,7 @@ module _ {before s area : List ℕ} {held : List Item} (k : Kept before s area h
       omega (arith, e, length-append (slotsOf (k .placed)) (k .rest), length-slots (k .placed), length-drop slotSize (k .rest))
 
   new-named : named area′ new ≡ x
-  new-named = rw (name-there area name (total held) within-area, length-placed k)
+  new-named = rw (over-there area (total held) name within-area, length-placed k)
 
   items-after : map (named area′) more ≡ inTime (held ++ x ∷ [])
   items-after =

@@ -9,6 +9,7 @@ use lib.Seq.{take-at, drop-at, drop-append-add, length-take-le}
 use Rattle.protocol.specs.Bytes.{numberAt, signed, over}
 use Rattle.protocol.specs.Records.{u32At, u64At}
 use Rattle.protocol.proofs.Bytes.{le-bytesOf}
+use Rattle.protocol.proofs.Words.{number-behind}
 use Rattle.boundary.proofs.Heard.{number-front}
 use Rattle.record.specs.Fields.{unsigned}
 use Rattle.record.specs.Narrow.{I64, U64}
@@ -50,11 +51,6 @@ slots-append (p ∷ ps) qs = ap (λ (l : List ℕ). slotBytes p ++ l) (slots-app
 abbrev pub noPlace : Placed
 noPlace = record { time = pos 0; start = 0; size = 0; number = 0 }
 
--- a number behind some bytes
-number-past : (k off : ℕ) (p t : List ℕ) → numberAt k (length p + off) (p ++ t) ≡ numberAt k off t
-unfolding numberAt
-number-past k off p t = rw (drop-append-add p t off)
-
 -- a number of the slot at a rank
 number-slot : (ps : List Placed) (rest : List ℕ) (r k off : ℕ) → r < length ps → off + k ≤ slotSize
     → numberAt k (slotSize * r + off) (slotsOf ps ++ rest) ≡ numberAt k off (slotBytes (getD ps r noPlace))
@@ -63,7 +59,7 @@ number-slot (p ∷ ps) rest zero k off h g =
     let e : slotSize * 0 + off ≡ off = omega arith in rw e (number-front k off (slotBytes p) (slotsOf ps ++ rest) g)
 number-slot (p ∷ ps) rest (suc r) k off h g =
     let e : slotSize * suc r + off ≡ slotSize + (slotSize * r + off) = omega arith in
-    rw e (number-past k (slotSize * r + off) (slotBytes p) (slotsOf ps ++ rest) ∙ number-slot ps rest r k off (omega arith) g)
+    rw e (number-behind k (slotBytes p) (slotsOf ps ++ rest) (slotSize * r + off) ∙ number-slot ps rest r k off (omega arith) g)
 
 module _ (p : Placed) where
   time-of : I64 (p .time) → numberAt 8 0 (slotBytes p) ≡ unsigned (p .time)
@@ -83,7 +79,7 @@ module _ (s : List ℕ) (area used : ℕ) (ps : List Placed) (rest : List ℕ) (
   number-at : (r k off : ℕ) → r < length ps → off + k ≤ slotSize → numberAt k (slotAt r + off) s ≡ numberAt k off (slotBytes (getD ps r noPlace))
   number-at r k off h g =
       let e : slotAt r + off ≡ 32 + (slotSize * r + off) = omega arith in
-      rw (shape, e) (number-past k (slotSize * r + off) (headed area (length ps) used) (slotsOf ps ++ rest) ∙ number-slot ps rest r k off h g)
+      rw (shape, e) (number-behind k (headed area (length ps) used) (slotsOf ps ++ rest) (slotSize * r + off) ∙ number-slot ps rest r k off h g)
 
   module _ (few : used ≤ mostNames) (r : ℕ) (h : r < length ps) (fit : Fits used (getD ps r noPlace)) where
     pub time-bits : u64At (slotAt r) s ≡ unsigned (getD ps r noPlace .time)

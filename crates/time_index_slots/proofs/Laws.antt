@@ -1,23 +1,23 @@
 -- Laws of `specs/Keys.antt` and of the index's slots: times by their keys, ranks by either, numbers that the code reads, what `isIndex` and
 -- `hasSlot` say, and bytes put in front of others. Assumes nothing.
 use mathlib.Core.Bool.{Bool, true, false, _&&_, not, and-false, and-eq-true-iff}
-use mathlib.Core.List.{List, [], _∷_, _++_, append-assoc, append-nil}
+use mathlib.Core.List.{List, [], _∷_, _++_, append-assoc}
 use mathlib.Core.Path.{_≡_, refl, sym, ap, ap₂, _∙_}
 use Prim.Native.Nat.{ℕ, zero, suc, _+_, _-_, _*_, _/_, _%_, _≤_, _<_}
 use native.Mathlib.Decide.{decLe}
-use native.Mathlib.Nat.{lt-of-not-le, add-zero}
+use native.Mathlib.Nat.{lt-of-not-le}
 use native.Mathlib.Numerals.{add-one}
 use native.Mathlib.Omega.{arith}
 use borrow.Author.Tests.{lt-ltb, le-ltb, le-leb, lt-leb, eqb-true, leb-true}
 use lib.Dec.{eqb, leb, ltb}
 use lib.IntN.{ℤ}
-use lib.ListN.{length, take, drop, getD, set, length-append, length-drop, take-append-drop, List·getD-append}
+use lib.ListN.{length, take, drop, getD, set, length-append, length-drop, List·getD-append}
 use lib.Seq.{append-snoc, set-split, length-take-le, take-take, take-append-le, drop-at, drop-cons, getD-take}
 use Rattle.protocol.specs.Bytes.{Bytes, pick, numberAt, signed, whole, over, put}
 use Rattle.protocol.specs.Records.{u32At, u64At}
-use Rattle.protocol.proofs.Bytes.{bytes-drop, over-length, whole-in}
+use Rattle.protocol.proofs.Bytes.{over-length, over-none, whole-in}
 use Rattle.protocol.proofs.Records.{signed-low, signed-high}
-use Rattle.protocol.proofs.Words.{le-below}
+use Rattle.protocol.proofs.Words.{number-below}
 use Rattle.boundary.specs.Told.{outSize}
 use Rattle.record.specs.Fields.{unsigned}
 use Rattle.record.specs.Narrow.{U64, I64}
@@ -96,18 +96,13 @@ unfolding ranks
 ranks-none p s zero e = refl
 ranks-none p s (suc n) e = rw (e n) (ranks-none p s n e)
 
--- 64 bits of bytes
-pub number-wide : (s : List ℕ) (off : ℕ) → Bytes s → U64 (numberAt 8 off s)
-unfolding numberAt
-number-wide s off b = le-below 8 (drop off s) (bytes-drop off s b)
-
 module _ (s : List ℕ) (bytes : Bytes s) (x : ℕ) (wide : U64 x) (n : ℕ) where
   -- the ranks up to a time, by its key
   pub ranks-up : ranks (keyTo (keyed x)) s n ≡ ranks (λ z. noLater z (signed x)) s n
   ranks-up =
       ranks-same _ _ s n
       (λ r.
-      let w = number-wide s (slotAt r) bytes in
+      let w = number-below 8 s (slotAt r) bytes in
       rw (unsigned-back (numberAt 8 (slotAt r) s) w) (key-order _ x w wide))
 
   -- ... and below it
@@ -115,14 +110,14 @@ module _ (s : List ℕ) (bytes : Bytes s) (x : ℕ) (wide : U64 x) (n : ℕ) whe
   ranks-under h =
       ranks-same _ _ s n
       (λ r.
-      let w = number-wide s (slotAt r) bytes in
+      let w = number-below 8 s (slotAt r) bytes in
       rw (unsigned-back (numberAt 8 (slotAt r) s) w) (leb-below _ (keyed x) h ∙ ap not (key-order x _ wide w)))
 
   pub ranks-first : keyed x ≡ 0 → ranks (λ z. earlier z (signed x)) s n ≡ 0
   ranks-first e =
       ranks-none _ s n
       (λ r.
-      ap not (sym (key-order x (numberAt 8 (slotAt r) s) wide (number-wide s (slotAt r) bytes)) ∙ le-leb (keyed x) (keyed (numberAt 8 (slotAt r) s)) (omega arith)))
+      ap not (sym (key-order x (numberAt 8 (slotAt r) s) wide (number-below 8 s (slotAt r) bytes)) ∙ le-leb (keyed x) (keyed (numberAt 8 (slotAt r) s)) (omega arith)))
 
 -- a number of k bytes that the code reads, and the key of a time
 pub number-read : {x : ℕ} (k : ℕ) (s : List ℕ) (off : ℕ) → off + k ≤ length s → x ≡ whole k 0 (numberAt k 0) s off → x ≡ numberAt k off s
@@ -131,7 +126,7 @@ number-read k s off h e = e ∙ whole-in k 0 (numberAt k 0) s off h
 
 pub key-read : {x : ℕ} (s : List ℕ) (r : ℕ) → Bytes s → slotAt r + 8 ≤ length s → x ≡ whole 8 0 (u64At 0) s (slotAt r)
     → keyed (unsigned (timeAt s r)) ≡ keyed x
-key-read s r b h e = ap keyed (unsigned-back (numberAt 8 (slotAt r) s) (number-wide s (slotAt r) b) ∙ sym (number-read 8 s (slotAt r) h e))
+key-read s r b h e = ap keyed (unsigned-back (numberAt 8 (slotAt r) s) (number-below 8 s (slotAt r) b) ∙ sym (number-read 8 s (slotAt r) h e))
 
 -- one rank less
 pub ranks-last : (p : ℤ → Bool) (s : List ℕ) (n : ℕ) → 0 < n → ranks p s n ≡ pick (p (timeAt s (n - 1))) n (ranks p s (n - 1))
@@ -218,10 +213,6 @@ module _ (s : List ℕ) (area len : ℕ) where
 
 -- ---- bytes put in front of bytes
 
-pub over-none : (s : List ℕ) (at : ℕ) → over s at [] ≡ s
-unfolding over
-over-none s at = rw (append-nil, add-zero) (take-append-drop at s)
-
 -- what is put in front of what was put is put with it
 pub over-back : (s : List ℕ) (p : ℕ) (a b : List ℕ) → p + length a + length b ≤ length s → over (over s (p + length a) b) p a ≡ over s p (a ++ b)
 unfolding over
@@ -239,10 +230,10 @@ over-one : (s : List ℕ) (i x : ℕ) → i < length s → set s i x ≡ over s 
 unfolding over
 over-one s i x h = rw add-one (set-split s i x h ∙ sym (append-snoc (take i s) x (drop (suc i) s)))
 
--- what stands in front stays
-over-before : (s : List ℕ) (at : ℕ) (m : List ℕ) (i : ℕ) → i < at → at ≤ length s → getD (over s at m) i 0 ≡ getD s i 0
+-- a byte in front stays
+byte-before : (s : List ℕ) (at : ℕ) (m : List ℕ) (i : ℕ) → i < at → at ≤ length s → getD (over s at m) i 0 ≡ getD s i 0
 unfolding over
-over-before s at m i h k =
+byte-before s at m i h k =
     let l = length-take-le at s k in
     rw (append-assoc (take at s) m (drop (at + length m) s))
     (List·getD-append (take at s) (m ++ drop (at + length m) s) 0 i (omega arith) ∙ getD-take at s i 0 h)
@@ -266,7 +257,7 @@ moved-next s (suc j) to h k f =
     let next : suc j + slotSize ≡ j + slotSize + 1 = omega arith in
     let l = length-take-le (to - suc j) (drop (suc j) s) (omega (arith, length-drop (suc j) s)) in
     let n = over-length s (j + slotSize + 1) m (omega arith) in
-    rw (one, more, drop-cons s j 0 (omega arith), next, over-before s (j + slotSize + 1) m j (omega arith) (omega arith))
+    rw (one, more, drop-cons s j 0 (omega arith), next, byte-before s (j + slotSize + 1) m j (omega arith) (omega arith))
     (over-one (over s (j + slotSize + 1) m) (j + slotSize) x (omega arith) ∙ over-back s (j + slotSize) (x ∷ []) m (omega arith))
 
 -- the bytes of a slot in front of those that it moved

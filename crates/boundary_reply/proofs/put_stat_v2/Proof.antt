@@ -1,26 +1,18 @@
 -- `boundary_reply::put_stat_v2` meets its contract. Assumes nothing.
 use mathlib.Core.List.{List, [], _∷_, _++_}
-use mathlib.Core.Path.{_≡_, sym, ap, _∙_}
+use mathlib.Core.Path.{sym}
 use native.Mathlib.Omega.{arith}
-use borrow.Author.Needs.{needs, sfits-of}
+use borrow.Author.Needs.{needs}
 use denote.Ref.{now}
 use Rattle.protocol.proofs.Bytes.{put-out}
 use Rattle.record.proofs.Words.{put-next}
 use Rattle.record.specs.Record.{words}
-use Prim.Native.Nat.{ℕ, _^_, _≤_, _<_}
-use lib.IntN.{ℤ}
+use Prim.Native.Nat.{ℕ, _≤_}
 use lib.ListN.{length}
-use lib.Signed.{mag}
-use mir.Facts.{toZ-ofZ}
-use mir.Syntax.{w64}
-use mir.Val.{toZ, ofZ}
 use Rattle.record.specs.Fields.{unsigned}
+use Rattle.record_store.proofs.Times.{time}
 use Rattle.boundary_reply.proofs.put_stat_v2.Statement.{statement}
 use Rattle.boundary_reply.proofs.put_stat_v2.Tie as tie
-
--- a time goes to `unsigned` as its bits, which are the time again: it fits
-time : {n : ℕ} (z : ℤ) → mag z < 2 ^ 63 → n ≡ unsigned (toZ w64 (ofZ w64 z)) → n ≡ unsigned z
-time z h e = e ∙ ap unsigned (toZ-ofZ {w = w64} {z = z} (sfits-of h))
 
 returns-2 : tie.Need-returns-2
 returns-2 c =

@@ -9,10 +9,10 @@ use borrow.Author.Needs.{needs}
 use lib.ListN.{length, drop}
 use Rattle.protocol.specs.Bytes.{over}
 use Rattle.protocol.specs.Messages.{joined}
-use Rattle.protocol.proofs.Bytes.{put-length}
+use Rattle.protocol.proofs.Bytes.{over-none, put-length}
 use Rattle.id_table.specs.IdsFile.{count}
 use Rattle.id_table.specs.Places.{groups, lineSize}
-use Rattle.id_table.proofs.Groups.{groups-none, over-none, copied-next}
+use Rattle.id_table.proofs.Groups.{groups-none, copied-next}
 use Rattle.id_table.proofs.copy_values.Statement.{statement}
 use Rattle.id_table.proofs.copy_values.Tie as tie
 

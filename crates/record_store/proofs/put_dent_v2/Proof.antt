@@ -1,22 +1,13 @@
 -- `record_store::put_dent_v2` meets its contract. Assumes nothing.
 use Rattle.record.specs.Fields.{unsigned}
 use Rattle.record_store.proofs.Puts.{twelve-put}
-use borrow.Author.Needs.{needs, sfits-of}
+use Rattle.record_store.proofs.Times.{time}
+use borrow.Author.Needs.{needs}
 use denote.Ref.{now}
 use mathlib.Core.List.{[], _∷_}
-use mathlib.Core.Path.{_≡_, refl, ap, _∙_}
-use Prim.Native.Nat.{ℕ, _^_, _<_}
-use lib.IntN.{ℤ}
-use lib.Signed.{mag}
-use mir.Facts.{toZ-ofZ}
-use mir.Syntax.{w64}
-use mir.Val.{toZ, ofZ}
+use mathlib.Core.Path.{refl}
 use Rattle.record_store.proofs.put_dent_v2.Statement.{statement}
 use Rattle.record_store.proofs.put_dent_v2.Tie as tie
-
--- a time goes to `unsigned` as its bits, which are the time again: it fits
-time : {n : ℕ} (z : ℤ) → mag z < 2 ^ 63 → n ≡ unsigned (toZ w64 (ofZ w64 z)) → n ≡ unsigned z
-time z h e = e ∙ ap unsigned (toZ-ofZ {w = w64} {z = z} (sfits-of h))
 
 returns : tie.Need-returns
 returns c =
