@@ -1,5 +1,5 @@
-/* The twelve functions of libexports.a: the host's side of ADB's sync: service (stat, list, pull, push), without I/O, a heap or a clock;
- * and an index of a listing's entries by their times.
+/* The fourteen functions of libexports.a: the host's side of ADB's sync: service (stat, list, pull, push), without I/O, a heap or a clock;
+ * an index of a listing's entries by their times; and for the panel's side a writer of replies and a reader of requests.
  *
  * A session lives in a record and two buffers of the host's. The host starts a call, does what the library asks (read, write, close),
  * reports what came of it, and so on until the call is answered. examples/pull.c is a whole program.
@@ -17,6 +17,8 @@
  *   area    takes the names of an index, end to end from its front, YUGLASNO_INDEX_NAMES bytes of them at most; what stands behind them is
  *           left alone
  *   reply   the out of a session's call, as the library left it
+ *   numbers the numbers of a panel's reply: words of eight bytes, the lowest first; told takes its length: YUGLASNO_REPLY bytes at least
+ *   bytes   what a panel has heard of a host
  * A slice crosses as address and length. It needs no alignment; NULL with length 0 is fine. Slices must not overlap. The library keeps
  * no address: it reads and writes inside the slices, and only until it returns. rx and msg have the same lengths in every call and report
  * of a session; from a call's start to its answer lent has the same length and the same bytes. The host alters rec nowhere, and rx only
@@ -25,7 +27,7 @@
  * Each function answers every input; two threads may be in the library at once, each with slices of its own.
  *
  * What is returned: two forms of number
- *   yuglasno_settings, yuglasno_ids, yuglasno_open and the five of the index   the answer's number alone
+ *   yuglasno_settings, yuglasno_ids, yuglasno_open, the five of the index and the two of the panel's side   the answer's number alone
  *   the other four  what + 256 * number: yuglasno_what() says what is asked (YUGLASNO_WHAT_..), and of WHAT_TOLD yuglasno_answer() is the
  *                   answer's number (YUGLASNO_ANSWER_..). Where something is asked, number is 0 and means nothing.
  *
@@ -51,6 +53,10 @@
  *   yuglasno_index_between, yuglasno_index_latest   the words YUGLASNO_SPAN_..: how many entries, and the rank of the first. Ranks count
  *                                                   from 0, in time order, equal times in listing order
  *   yuglasno_index_entry                            the words YUGLASNO_ITEM_..; all 0 where no entry has that rank
+ *
+ * What the panel's side has: no state, and what is told is words too, and no other byte
+ *   yuglasno_speak   the reply at the front of out; in told the word YUGLASNO_SPOKEN_LENGTH
+ *   yuglasno_heard   the words YUGLASNO_HEARD_..
  *
  * What of the record may be read: how many bytes a read still wants, by yuglasno_wanted(). All else in it is the library's own. */
 #ifndef YUGLASNO_H
@@ -115,14 +121,16 @@ enum {
   YUGLASNO_FAULT_ERROR = 1   /* another fault, with a code of the host's own */
 };
 
-/* The answers. 1 to 11, 19, 22 and 23 change nothing: record, settings, buffers, slots, area and a pending call are as before. Where
+/* The answers. 1 to 11, 18 to 20, 22 and 23 change nothing: record, settings, buffers, slots, area and a pending call are as before. Where
  * several apply, the first of 1, 2, then 3, 6, 4, 5, 8, 7, 9, 10 is answered; of a report 3, 6, 5, 11. Of a table of ids it is 22, then 23,
- * behind 1 to 3. Of an index it is 3, then 19. docs/ANSWERS.md says what to do. */
+ * behind 1 to 3. Of an index it is 3, then 19. Of a reply it is 3 for told, then the settings' answer (3, 22, 23), then 3 for its kind and
+ * numbers, then 20; of a request 3 for out, then the settings' answer, then 18. docs/ANSWERS.md says what to do. */
 enum {
   YUGLASNO_ANSWER_OK = 0,
   YUGLASNO_ANSWER_SMALL_BUFFER = 1,         /* rx is under 8 bytes */
   YUGLASNO_ANSWER_SHORT_MESSAGE_BUFFER = 2, /* msg is shorter than rx */
-  YUGLASNO_ANSWER_OTHER_LENGTH = 3,         /* a slice has another length than it must have, or rec holds no session, or slots no index */
+  YUGLASNO_ANSWER_OTHER_LENGTH = 3,         /* a slice has another length than it must have, or rec holds no session, or slots no index;
+                                               or a panel's reply has no such kind, or a number is not there or too wide for its field */
   YUGLASNO_ANSWER_PENDING = 4,              /* a call while one is pending */
   YUGLASNO_ANSWER_NOT_AWAITED = 5,          /* a report that is not awaited, or no such call */
   YUGLASNO_ANSWER_ENDED = 6,                /* a call or report after quit */
@@ -137,8 +145,10 @@ enum {
   YUGLASNO_ANSWER_UNEXPECTED = 15,          /* a reply under an id that does not belong there: word 3 */
   YUGLASNO_ANSWER_ERRNO = 16,               /* the panel's errno in a v2 stat: word 3 */
   YUGLASNO_ANSWER_TOO_LARGE = 17,           /* a reply that rx can't hold */
-  YUGLASNO_ANSWER_BAD_REQUEST = 18,         /* of the panel's request reader, which is not exported: no function here answers it */
+  YUGLASNO_ANSWER_BAD_REQUEST = 18,         /* of yuglasno_heard: the bytes are no request of a host */
   YUGLASNO_ANSWER_INDEX_FULL = 19,          /* slots or name bytes run out: no room for the entry */
+  YUGLASNO_ANSWER_LONG_REPLY = 20,          /* of yuglasno_speak: out can't hold the reply, data is over YUGLASNO_DATA_MOST bytes, or a name or
+                                               text has 2^32 or more */
   YUGLASNO_ANSWER_BAD_IDS = 22,             /* a file, or the settings of an opening, is no table of ids */
   YUGLASNO_ANSWER_EQUAL_IDS = 23            /* two ids of the table are equal */
 };
@@ -200,6 +210,33 @@ enum {
   YUGLASNO_ITEM_MTIME = 4   /* signed: (int64_t) of the word */
 };
 
+/* The kinds of a panel's reply. Up to SAY_CHUNK they are the numbers of the kinds of a WHAT_TOLD, so that a stat, an entry or a chunk that a
+ * session was told can be said again: numbers is then the reply from its byte 24 on, lent the part. A listing's end is told as KIND_END, and
+ * said as SAY_LISTING_END or SAY_LISTING_END_V2. */
+enum {                               /* bytes          numbers  lent */
+  YUGLASNO_SAY_OKAY = 0,             /* OKAY, 8                      */
+  YUGLASNO_SAY_END = 1,              /* DONE, 8                      a pull's end */
+  YUGLASNO_SAY_STAT = 2,             /* STAT, 16       3             */
+  YUGLASNO_SAY_STAT_V2 = 3,          /* STA2, 72       11            */
+  YUGLASNO_SAY_ENTRY = 4,            /* DENT, 20       3        name */
+  YUGLASNO_SAY_ENTRY_V2 = 5,         /* DNT2, 76       11       name */
+  YUGLASNO_SAY_CHUNK = 6,            /* DATA, 8                 data */
+  YUGLASNO_SAY_FAIL = 7,             /* FAIL, 8                 text */
+  YUGLASNO_SAY_LISTING_END = 8,      /* DONE, 20                     a listing's end */
+  YUGLASNO_SAY_LISTING_END_V2 = 9    /* DONE, 76                     a v2 listing's end */
+};
+
+/* Where the panel's side has its words: that of yuglasno_speak in told, those of yuglasno_heard in out. */
+enum {
+  YUGLASNO_SPOKEN_LENGTH = 0, /* of the reply, in bytes */
+  YUGLASNO_HEARD_CALL = 0,    /* the request by its call's number, from CALL_STAT to CALL_QUIT; 0 where more bytes are wanted, and all six are 0 */
+  YUGLASNO_HEARD_START = 1,   /* where the path or the data starts in bytes */
+  YUGLASNO_HEARD_LENGTH = 2,  /* how long it is; 0 where the request has none */
+  YUGLASNO_HEARD_FIRST = 3,   /* the mode of a push, or SEND_DONE's time; else 0 */
+  YUGLASNO_HEARD_FLAGS = 4,   /* the flags of a v2 transfer; else 0 */
+  YUGLASNO_HEARD_SIZE = 5     /* the length of the whole request: the next one starts behind it */
+};
+
 /* Makes settings the published ones: the fifteen ids of the public documents, four bytes each, in the order STAT, STA2, LIST, LIS2, SEND,
  * SND2, RECV, RCV2, DATA, DONE, OKAY, FAIL, DENT, DNT2, QUIT, then zeros. OK, or OTHER_LENGTH. */
 uint32_t yuglasno_settings(uint8_t *settings, size_t settings_len);
@@ -251,6 +288,18 @@ uint32_t yuglasno_index_latest(const uint8_t *slots, size_t slots_len, size_t ar
 
 /* The entry of a rank. OTHER_LENGTH also where the host altered slots so that the name is none of those in the area. */
 uint32_t yuglasno_index_entry(const uint8_t *slots, size_t slots_len, size_t area, size_t rank, uint8_t *out, size_t out_len);
+
+/* Writes one reply of a panel to the front of out, under the ids in settings. numbers are those of a stat or an entry, in the order of the words
+ * AT_MODE to AT_MTIME, or AT_V2_ERROR to AT_V2_CTIME, from numbers' front; bytes behind them are not looked at. lent is an entry's name, a
+ * chunk's data or a FAIL's text, any bytes, also none. Behind the id of OKAY and DONE all is 0. OK, and out's bytes behind the reply are as
+ * they were; or OTHER_LENGTH, BAD_IDS, EQUAL_IDS, LONG_REPLY, and so are all of out and told. */
+uint32_t yuglasno_speak(const uint8_t *settings, size_t settings_len, uint32_t kind, const uint8_t *numbers, size_t numbers_len,
+                        const uint8_t *lent, size_t lent_len, uint8_t *out, size_t out_len, uint8_t *told, size_t told_len);
+
+/* Reads the request at the front of bytes, under the ids in settings. OK, also where more bytes are wanted; or OTHER_LENGTH, BAD_IDS,
+ * EQUAL_IDS, BAD_REQUEST, and out is as it was. */
+uint32_t yuglasno_heard(const uint8_t *settings, size_t settings_len, const uint8_t *bytes, size_t bytes_len, uint8_t *out,
+                        size_t out_len);
 
 /* What is asked, of a number that yuglasno_start or a report returned. */
 static inline uint32_t yuglasno_what(uint32_t returned) { return returned & 255; }

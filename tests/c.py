@@ -1,7 +1,8 @@
-"""include/yuglasno.h, from C and from C++: tests/c/edges.c tries what the header says, and examples/pull.c pulls files of a folder from the
+"""include/yuglasno.h, from C and from C++: tests/c/edges.c and tests/c/panel_side.c try what the header says, and examples/pull.c pulls files of a folder from the
 test panel over a pipe, compared with the files themselves.
 
 Over the static library in target/staticlib, or in the folder YUGLASNO_LIB. The last line is 'N passed, M failed'."""
+import itertools
 import os
 import pathlib
 import random
@@ -38,20 +39,20 @@ def built(compiler, source, program):
     return done.returncode == 0
 
 
-def edges(folder, compiler):
-    """The checks of edges.c, each counted; under valgrind, where that is there, they are one more."""
-    program = folder / 'edges'
-    if not built(compiler, 'tests/c/edges.c', program):
+def tried(folder, compiler, name):
+    """The checks of a program of tests/c, each counted; under valgrind, where that is there, they are one more."""
+    program = folder / name
+    if not built(compiler, f'tests/c/{name}.c', program):
         return
     told = subprocess.run([program], capture_output=True, text=True).stdout
     verdict = re.search(r'^(\d+) passed, (\d+) failed$', told, re.M)
-    count.check(verdict and int(verdict[1]) > 0, f'edges has no verdict: {told}')
+    count.check(verdict and int(verdict[1]) > 0, f'{name} has no verdict: {told}')
     if verdict:
         count.passed, count.failed = count.passed + int(verdict[1]), count.failed + int(verdict[2])
-        print(told.rsplit('\n', 2)[0] if int(verdict[2]) else f'c: edges, {compiler[1][5:]}: {verdict[0]}')
+        print(told.rsplit('\n', 2)[0] if int(verdict[2]) else f'c: {name}, {compiler[1][5:]}: {verdict[0]}')
     if shutil.which('valgrind'):
         checked = subprocess.run(['valgrind', '-q', '--error-exitcode=1', program], capture_output=True)
-        count.check(checked.returncode == 0, f'edges under valgrind: {checked.stderr}')
+        count.check(checked.returncode == 0, f'{name} under valgrind: {checked.stderr}')
     else:
         print('c: valgrind is not there: the run under it is left out')
 
@@ -93,11 +94,10 @@ def one_pull(words, file):
 def main():
     with tempfile.TemporaryDirectory() as name:
         folder = pathlib.Path(name)
-        edges(folder, C)
-        if shutil.which(CPP[0]):
-            edges(folder, CPP)
-        else:
+        if not shutil.which(CPP[0]):
             print('c: no C++ compiler: the header as C++ is left out')
+        for compiler, name in itertools.product([C, CPP] if shutil.which(CPP[0]) else [C], ('edges', 'panel_side')):
+            tried(folder, compiler, name)
         pulls(folder)
     count.finish()
 

@@ -13,12 +13,13 @@ ROOT = pathlib.Path(__file__).resolve().parent.parent
 OTHERS = {'rust': in_rust, 'definitions': in_definitions, 'page of answers': in_page}
 # the page has these alone; the others have every table of the header
 ON_PAGE = {'answers', 'order', 'order of a report', 'order of a table', 'order of an index'}
-# what a table has no name for: the crate's errors are not 0, and it reads no requests; the definitions have no buffer of that length and
+# what a table has no name for: the crate's errors are not 0; what a host asks itself for is no request; the definitions have no buffer of that length and
 # no name for no flags, and to them a fault of any kind but 0 is an error; where a host reads an answer, a refusal is any other number, and
 # the close any other what; the crate asks for no rank that is not there
 REFUSED = set(in_definitions.REFUSALS)
 WITHOUT = {
-    ('rust', 'answers'): {'OK', 'BAD_REQUEST'},
+    ('rust', 'answers'): {'OK'},
+    ('rust', 'calls, heard'): {'NEXT_ENTRY', 'NEXT_ENTRY_V2', 'RECV_NEXT'},
     ('rust', 'kinds'): {'OTHER'},
     ('rust', 'words of an item'): {'THERE'},
     ('definitions', 'lengths'): {'CAPACITY'},
@@ -29,8 +30,9 @@ WITHOUT = {
     ('definitions', 'kinds, read'): {'OTHER'},
     ('definitions', 'what, read'): {'CLOSE'},
 }
-# what is numbered by its place in a list: feature names, requests
+# what is numbered by its place in a list: feature names, requests, what is told of a request
 LISTED = r'ascii "\w+"|some Q\.\w+|some \(Q\.\w+(?: \w| \(record \{ 0 = \w \}\))+\)'
+LISTED += r'|(?:callNumber|(?:first|flag)Number nothing) \(call q\)|headerSize(?= ∷)|length \(lentOf nothing \(call q\)\)|\bn(?= ∷ \[\])'
 # of what is no number: the header's remark on a call, a parameter's type
 EDITS = [
     ('header', '/* path   mode         */', '/* path                */'),
@@ -53,6 +55,9 @@ EDITS = [
     ('header', 'it is 3, then 19', 'it is 19, then 3'),
     ('rust', 'it is 3, then 19', 'it is 19, then 3'),
     ('page of answers', 'it is 3, then 19', 'it is 19, then 3'),
+    # a reply is written to out, and read from no other slice
+    ('header', 'uint8_t *out, size_t out_len, uint8_t *told', 'const uint8_t *out, size_t out_len, uint8_t *told'),
+    ('rust', 'bytes: *const u8, bytes_len', 'bytes: *mut u8, bytes_len'),
     # a time has a sign
     ('header', 'int64_t from, int64_t to', 'uint32_t from, int64_t to'),
     ('rust', 'from: i64, to: i64, out: *mut u8', 'from: i64, to: u32, out: *mut u8'),

@@ -19,6 +19,10 @@ def message(name, body):
     return name + struct.pack('<I', len(body)) + body
 
 
+# what the panel says to what is no request
+REFUSED = message(b'FAIL', b'bad request')
+
+
 def pushed(path, text):
     """What the panel says to a push, and to a STAT behind it."""
     push = [message(b'SEND', path + b',' + text), message(b'DATA', DATA), b'DONE' + struct.pack('<I', 5), message(b'STAT', path)]
@@ -32,7 +36,7 @@ def taken(mode):
 def texts(count):
     for text in mode_texts():
         mode, told = mode_of(text), pushed(b'/j', text)
-        count.check(told == (message(b'FAIL', b'bad mode') if mode is None else taken(mode)), f'the mode {text}: {told}')
+        count.check(told == (REFUSED if mode is None else taken(mode)), f'the mode {text}: {told}')
 
 
 def limits(count):
@@ -40,11 +44,11 @@ def limits(count):
     for length in range(PATH_MOST - 2, PATH_MOST + 14):
         for text in (b'0', b'4294967295', b'00', b'0100644', b'037777777777'):
             told = pushed(b'/' + b'p' * (length - 1), text)
-            expected = message(b'FAIL', b'path too long') if length > PATH_MOST else taken(mode_of(text))
+            expected = REFUSED if length > PATH_MOST else taken(mode_of(text))
             count.check(told == expected, f'a path of {length} bytes, mode {text}: {told}')
     for arg in (PATH_MOST, SEND_MOST, SEND_MOST + 1):
         told = subprocess.run([PROGRAM], input=b'SEND' + struct.pack('<I', arg), capture_output=True).stdout
-        count.check(told == (message(b'FAIL', b'path too long') if arg > SEND_MOST else b''), f'a SEND with arg {arg}: {told}')
+        count.check(told == (REFUSED if arg > SEND_MOST else b''), f'a SEND with arg {arg}: {told}')
 
 
 def main():

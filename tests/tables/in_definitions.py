@@ -16,9 +16,10 @@ READER = 'crates/request_reader/specs/Meaning.antt'
 MISUSE, = specs('boundary_misuse', 'Misuse')
 IDS_FILE, SETTINGS = specs('id_table', 'IdsFile Settings')
 INDEX, SLOTS, INDEX_CROSSING, INDEX_CLAIM = specs('time_index', 'Index Slots Crossing Claim')
+PANEL, = specs('panel_side', 'Crossing')
 EXPORTS = 'crates/exports/src/lib.rt'
 SOURCES = [TOLD, CROSSING, BOUNDARY, HEARD, ANSWERS, REFUSAL, IDS, MESSAGES, FEATURES, FLAGS, OPENING, REPORTS, HOST, RECORD, FIELDS, READER]
-SOURCES += [EXPORTS, MISUSE, IDS_FILE, SETTINGS, INDEX, SLOTS, INDEX_CROSSING, INDEX_CLAIM]
+SOURCES += [EXPORTS, MISUSE, IDS_FILE, SETTINGS, INDEX, SLOTS, INDEX_CROSSING, INDEX_CLAIM, PANEL]
 
 # the definitions' words for the calls, and for some answers and kinds
 CALLED = {
@@ -29,6 +30,14 @@ CALLED = {
 }
 SAME = {'STAT_V1': 'STAT', 'ENTRY_V1': 'ENTRY', 'STAT2': 'STAT_V2', 'ENTRY2': 'ENTRY_V2', 'ERROR': 'IO', 'DONE': 'OK'}
 THROUGH = ('DONE', 'END', 'STAT_V1', 'STAT_V2', 'ENTRY_V1', 'ENTRY_V2', 'CHUNK')
+# the definitions' words for the replies of a panel, and for what is told of a request
+SAID = {
+    'okay': 'OKAY', 'transferEnd': 'END', 'stat': 'STAT', 'stat2': 'STAT_V2', 'entry': 'ENTRY', 'entry2': 'ENTRY_V2', 'chunk': 'CHUNK',
+    'fail': 'FAIL', 'listingEnd v1': 'LISTING_END', 'listingEnd v2': 'LISTING_END_V2',
+}
+TOLD_OF_REQUEST = {
+    'callNumber': 'CALL', 'headerSize': 'START', 'length': 'LENGTH', 'firstNumber': 'FIRST', 'flagNumber': 'FLAGS', 'n': 'SIZE',
+}
 # each refusal by the words before its number
 REFUSALS = {
     'SMALL_BUFFER': (OPENING, r'pick \(ltb capacity 8\) (\d+)'),
@@ -45,6 +54,7 @@ REFUSALS = {
     'EQUAL_IDS': (IDS_FILE, r'equalValues = (\d+)'),
     'INDEX_FULL': (INDEX, r'indexFull = (\d+)'),
     'BAD_REQUEST': (READER, r'number R\.Refused = (\d+)'),
+    'LONG_REPLY': (PANEL, r'longReply = (\d+)'),
 }
 
 
@@ -184,6 +194,9 @@ def tables(texts):
         'record': found(r'(?P<number>\d+) (?P<name>tail|until)\b', section(texts[FIELDS], '--  0 capacity', '--\n')),
         'words of a span': span(texts[INDEX_CLAIM]),
         'words of an item': item(texts[INDEX_CLAIM]),
+        'kinds of a reply': said(texts[PANEL]),
+        'words of a reply': spoken(texts[PANEL]),
+        'words of a request': request(texts[PANEL]),
         'functions': dict(functions(texts[EXPORTS])),
     }
 
@@ -196,6 +209,23 @@ def span(claim):
 def item(claim):
     read = re.search(r'eqb \(at o (\d+)\) 1\) \(some \(item \(at o (\d+)\) \(signed \(at o (\d+)\)\) \(take \(at o (\d+)\) \(drop \(at o (\d+)\)', claim)
     return {name: int(n) for name, n in zip(('THERE', 'NUMBER', 'MTIME', 'LENGTH', 'START'), read.groups())} if read else {}
+
+
+def said(panel):
+    """The replies of a panel by their numbers."""
+    arms = re.finditer(r'^sayKind \(?(listingEnd v\d|\w+)[^=\n]*= (\d+)', panel, re.M)
+    return {SAID[m[1]]: int(m[2]) for m in arms}
+
+
+def spoken(panel):
+    told = re.search(r'put told (\d+) \(words \(length \(bytesOfReply', panel)
+    return {'LENGTH': int(told[1])} if told else {}
+
+
+def request(panel):
+    """What is told of a request, each by its place."""
+    told = re.search(r'^requestWords q n = (.*) ∷ \[\]$', panel, re.M)
+    return {TOLD_OF_REQUEST[word.split()[0]]: i for i, word in enumerate(told[1].split(' ∷ '))} if told else {}
 
 
 def functions(text):

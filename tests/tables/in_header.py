@@ -5,7 +5,8 @@ from . import found, order
 
 SOURCES = ['include/yuglasno.h']
 GROUPS = {'calls': 'CALL', 'what': 'WHAT', 'faults': 'FAULT', 'answers': 'ANSWER', 'features': 'FEATURE', 'kinds': 'KIND', 'words': 'AT'}
-GROUPS |= {'flags': 'FLAG', 'words of a span': 'SPAN', 'words of an item': 'ITEM'}
+GROUPS |= {'flags': 'FLAG', 'words of a span': 'SPAN', 'words of an item': 'ITEM', 'kinds of a reply': 'SAY', 'words of a request': 'HEARD'}
+GROUPS |= {'words of a reply': 'SPOKEN'}
 KINDS = {'uint8_t *': 'mut u8 ', 'const uint8_t *': 'const u8 ', 'size_t ': 'usize ', 'uint32_t ': 'u32 ', 'int64_t ': 'i64 '}
 LENGTHS = 'RECORD|SETTINGS|REPLY|DATA_MOST|CAPACITY|PATH_MOST|SLOTS|INDEX_ENTRIES|INDEX_NAMES'
 

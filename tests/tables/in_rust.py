@@ -6,7 +6,10 @@ from . import found, order, section, snake
 CRATE = 'rust/yuglasno/src/'
 RAW, CALL, REPLY, ANSWER, ERROR = (CRATE + name for name in ('raw.rs', 'call.rs', 'reply.rs', 'answer.rs', 'error.rs'))
 SESSION, FEATURE, NUMBERS, LIB, INDEX = (CRATE + name for name in ('session.rs', 'feature.rs', 'numbers.rs', 'lib.rs', 'index.rs'))
-SOURCES = [RAW, CALL, REPLY, ANSWER, ERROR, SESSION, FEATURE, NUMBERS, LIB, INDEX]
+SPEAK, HEARD = (CRATE + name for name in ('speak.rs', 'heard.rs'))
+SOURCES = [RAW, CALL, REPLY, ANSWER, ERROR, SESSION, FEATURE, NUMBERS, LIB, INDEX, SPEAK, HEARD]
+# an arm of a reply's kind
+SAID = r'Self::(?P<name>\w+)(?:\(\w+\))? => (?:put_\w+\(numbers, [^,]+, )?(?P<number>\d+)'
 FIELD = r'(?P<name>\w+): (?:FileMode\()?word\(out, (?P<number>\d+)\)'
 
 
@@ -73,6 +76,10 @@ def tables(texts):
         'record': wanted(texts[RAW]),
         'words of a span': span(texts[INDEX]),
         'words of an item': item(texts[INDEX]),
+        'kinds of a reply': found(SAID, section(texts[SPEAK], 'fn put(&self', '\n    }\n')),
+        'words of a reply': {'LENGTH': only(r'word\(&told, (\d+)\)', texts[SPEAK])},
+        'words of a request': request(texts[HEARD]),
+        'calls, heard': found(r'(?P<number>\d+) => Call::(?P<name>\w+)', texts[HEARD]),
         'functions': dict(functions(texts[RAW])),
     }
 
@@ -90,4 +97,12 @@ def span(text):
 def item(text):
     made = found(r'(?P<name>mtime|number): word\(&out, (?P<number>\d+)\)', text)
     start = only(r'part\(&out, (\d+)\)', text)
+    return made | ({'START': start, 'LENGTH': start + 1} if start is not None else {})
+
+
+def request(text):
+    """The words of a request that is heard, each by what it goes to."""
+    made = {'CALL': only(r'match word\(out, (\d+)\)', text), 'SIZE': only(r'\(call, word\(&out, (\d+)\)', text)}
+    made |= {'FIRST': only(r'\(word\(out, (\d+)\) as u32, SyncFlags', text), 'FLAGS': only(r'SyncFlags\(word\(out, (\d+)\)', text)}
+    start = only(r'part\(out, (\d+)\)', text)
     return made | ({'START': start, 'LENGTH': start + 1} if start is not None else {})

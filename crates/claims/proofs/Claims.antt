@@ -119,6 +119,14 @@ use Rattle.time_index.specs.Logged.{LoggedClaim}
 use Rattle.time_index.proofs.Facts as IndexRows
 use Rattle.time_index.proofs.Index as Indexed
 use Rattle.time_index.proofs.Logged as IndexLogged
+use Rattle.panel_reply.specs.Facts as SpeechFacts
+use Rattle.panel_reply.proofs.Facts as SpeechRows
+use Rattle.panel_side.specs.Crossings as PanelFacts
+use Rattle.panel_side.proofs.Crossings as PanelRows
+use Rattle.panel_side.specs.Claim.{PanelClaim}
+use Rattle.panel_side.specs.Facts as ReadBackFacts
+use Rattle.panel_side.proofs.Facts as ReadBackRows
+use Rattle.panel_side.proofs.ReadBack as ReadBack
 use Rattle.claims.specs.WholeSlots as SlotFacts
 use Rattle.claims.proofs.Loading as Loading
 use Rattle.claims.proofs.WholeSlots as SlotRows
@@ -149,6 +157,11 @@ index-claim = Indexed.index-claim
 -- ... and beside demand 3's logs: it holds what the plain reader's answers make it hold (time_index/specs/Logged)
 pub index-logged : LoggedClaim
 index-logged = IndexLogged.logged-claim
+
+-- the panel's side: every reply is said under every table, but for those that are too long; what is said is read back by the calls that it
+-- belongs to, however the cable cuts it; and what a host writes is heard (panel_side/specs/Claim)
+pub panel-claim : PanelClaim
+panel-claim = ReadBack.panel-claim
 
 -- what is misplaced is refused by the table, and nothing else is (boundary_misuse/specs/Claim)
 pub misuse : Table.MisuseClaim
@@ -334,6 +347,27 @@ asking-holds = (SlotRows.indexes-hold, SlotRows.opening-holds, SlotRows.asking-h
 
 pub adding-holds : Hold IndexFacts.adding × Hold IndexFacts.turned × Hold IndexFacts.keeping × Hold IndexFacts.crossing
 adding-holds = (IndexRows.adding-holds, IndexRows.turned-hold, IndexRows.keeping-holds, IndexRows.crossing-holds)
+
+-- what the panel says: the bytes of each reply, under other ids too; what is too long; what a buffer becomes
+pub speech-holds : Hold SpeechFacts.replies × Hold SpeechFacts.lettered × Hold SpeechFacts.limits × Hold SpeechFacts.lengths × Hold SpeechFacts.buffers
+speech-holds = (SpeechRows.replies-hold, SpeechRows.lettered-holds, SpeechRows.limits-hold, SpeechRows.lengths-hold, SpeechRows.buffers-hold)
+
+-- ... by its kind and its numbers, as it crosses; and a request that is heard
+pub crossings-hold : Hold PanelFacts.kinds × Hold PanelFacts.passed × Hold PanelFacts.widths × Hold PanelFacts.speaking × Hold PanelFacts.turnedAway
+    × Hold PanelFacts.heardFacts × Hold PanelFacts.unheard
+crossings-hold = (
+  PanelRows.kinds-hold,
+  PanelRows.passed-hold,
+  PanelRows.widths-hold,
+  PanelRows.speaking-holds,
+  PanelRows.turned-away-hold,
+  PanelRows.heard-hold,
+  PanelRows.unheard-hold,
+)
+
+-- ... which capacity each wants, and what it is read as
+pub read-back-holds : Hold ReadBackFacts.capacities × Hold ReadBackFacts.answers
+read-back-holds = (ReadBackRows.capacities-hold, ReadBackRows.answers-hold)
 
 -- the panel's request reader, decimals, modes, the ids
 pub receiving-holds : Hold ReceiveFacts.receiving

@@ -1,5 +1,5 @@
--- What each of the twelve exported functions meets, by the places of its parameters: the crossings that demand 3 and the index's claim are about. Each takes any
--- arguments (there is no `requires`), and says every byte that it was lent mutably and the number that it returns.
+-- What each of the fourteen exported functions meets, by the places of its parameters: the crossings that demand 3, the index's claim and the panel's
+-- are about. Each takes any arguments (there is no `requires`), and says every byte that it was lent mutably and the number that it returns.
 -- Assumes nothing.
 use mathlib.Core.Path.{_≡_}
 use contract.Lifetimes.{Lfts}
@@ -49,6 +49,13 @@ use Rattle.exports.proofs.yuglasno_index_latest.Symbol as index-latest-code
 use Rattle.exports.proofs.yuglasno_index_entry as index-entry
 use Rattle.exports.proofs.yuglasno_index_entry.Met as index-entry-thm
 use Rattle.exports.proofs.yuglasno_index_entry.Symbol as index-entry-code
+use Rattle.exports.proofs.yuglasno_speak as speak
+use Rattle.exports.proofs.yuglasno_speak.Met as speak-thm
+use Rattle.exports.proofs.yuglasno_speak.Symbol as speak-code
+use Rattle.exports.proofs.yuglasno_heard as heard
+use Rattle.exports.proofs.yuglasno_heard.Met as heard-thm
+use Rattle.exports.proofs.yuglasno_heard.Symbol as heard-code
+use Rattle.panel_side.specs.Crossing.{spoke, sliced, crossSpeak, crossHeard}
 use Rattle.time_index.specs.Crossing.{laid, indexed, crossIndexOpen, crossIndexAdd, crossIndexBetween, crossIndexLatest, crossIndexEntry}
 
 module _ {M : Type 1} (𝓤 : URA M) (H : Heap 𝓤) (𝓜 : Model 𝓤 H) (𝓖 : GhostRules 𝓤 H) (𝓡 : Running 𝓤 H 𝓜) where
@@ -127,3 +134,15 @@ module _ {M : Type 1} (𝓤 : URA M) (H : Heap 𝓤) (𝓜 : Model 𝓤 H) (𝓖
       (λ κs (slots, (area, (rank, (out, _)))) r (slots′, (area′, (rank′, (out′, _)))).
       laid (now out′) r ≡ crossIndexEntry (now slots) area rank (now out))))
   index-entry-met = index-entry-thm.met 𝓤 H 𝓜 𝓖 𝓡
+
+  pub speak-met : Meets 𝓤 H (𝓖 .A) speak.signature (𝓡 .run speak-code.routine)
+      (closing 𝓤 H (𝓖 .A) speak.ended (stating speak.ended
+      (λ κs (settings, (kind, (numbers, (lent, (out, (told, _)))))) r (settings′, (kind′, (numbers′, (lent′, (out′, (told′, _)))))).
+      spoke (now out′) (now told′) r ≡ crossSpeak (now settings) kind (now numbers) (now lent) (now out) (now told))))
+  speak-met = speak-thm.met 𝓤 H 𝓜 𝓖 𝓡
+
+  pub heard-met : Meets 𝓤 H (𝓖 .A) heard.signature (𝓡 .run heard-code.routine)
+      (closing 𝓤 H (𝓖 .A) heard.ended (stating heard.ended
+      (λ κs (settings, (bytes, (out, _))) r (settings′, (bytes′, (out′, _))).
+      sliced (now out′) r ≡ crossHeard (now settings) (now bytes) (now out))))
+  heard-met = heard-thm.met 𝓤 H 𝓜 𝓖 𝓡

@@ -1,3 +1,4 @@
 pub mod Example
 pub mod Jobs
 pub mod WholeSlots
+pub mod Saying

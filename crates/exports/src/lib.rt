@@ -1,11 +1,12 @@
-// The exported functions: a session in a lent record, both buffers, what is lent, and a slice for the reply; and an index of a listing's
-// entries by their times, in lent slots and an area.
+// The exported functions: a session in a lent record, both buffers, what is lent, and a slice for the reply; an index of a listing's entries by
+// their times, in lent slots and an area; and the panel's side, a reply said and a request heard.
 ghost use mathlib.Core.Path.{_≡_};
 ghost use lib.ListN.{length};
 ghost use Rattle.boundary.specs.Crossing.{crossed, set, crossSettings, crossIds, crossOpen, crossStart, crossRead, crossWrote, crossFault};
 ghost use Rattle.record.specs.Record.{loaded};
 ghost use Rattle.fast_read.specs.Short.{shortIn};
 ghost use Rattle.time_index.specs.Crossing.{laid, indexed, crossIndexOpen, crossIndexAdd, crossIndexBetween, crossIndexLatest, crossIndexEntry};
+ghost use Rattle.panel_side.specs.Crossing.{spoke, sliced, crossSpeak, crossHeard};
 ghost use Rattle.exports.specs.Opened.{openCrossed};
 use boundary::REPLY;
 use boundary_reply::put_two;
@@ -28,6 +29,8 @@ use id_table::Lent;
 use id_table::load_ids;
 use id_table::published;
 use id_table::table_in;
+use panel_crossing::hear;
+use panel_crossing::say;
 use record::SIZE;
 use record_store::store;
 use record_store::store_tail;
@@ -310,4 +313,28 @@ pub extern "C" fn yuglasno_index_entry(
     ensures { λ r. ⌜ laid (now (out .exit)) r ≡ crossIndexEntry (now (slots .entry)) area rank (now (out .entry)) ⌝ }
 {
     index_entry(slots, area, rank, out)
+}
+
+// A reply of the panel by its kind, with its numbers and what is lent, at the front of out, and its length into told: 0, or 3, 22 or 23, or 20
+// for a reply that is too long; a refusal leaves both alone.
+#[no_mangle]
+pub extern "C" fn yuglasno_speak(
+    settings: &[u8],
+    kind: u32,
+    numbers: &[u8],
+    lent: &[u8],
+    out: &mut [u8],
+    told: &mut [u8],
+) -> u32
+    ensures { λ r. ⌜ spoke (now (out .exit)) (now (told .exit)) r ≡ crossSpeak (now (settings .entry)) kind (now (numbers .entry)) (now (lent .entry)) (now (out .entry)) (now (told .entry)) ⌝ }
+{
+    say(settings, kind, numbers, lent, out, told)
+}
+
+// The request at the front of the bytes, in six numbers, or that more bytes are wanted: 0, or 3, 22 or 23, or 18; a refusal leaves out alone.
+#[no_mangle]
+pub extern "C" fn yuglasno_heard(settings: &[u8], bytes: &[u8], out: &mut [u8]) -> u32
+    ensures { λ r. ⌜ sliced (now (out .exit)) r ≡ crossHeard (now (settings .entry)) (now (bytes .entry)) (now (out .entry)) ⌝ }
+{
+    hear(settings, bytes, out)
 }

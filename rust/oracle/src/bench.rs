@@ -1,6 +1,7 @@
 //! The costs of both sides on the same scripted bytes, and of the channel alone.
 mod cases;
 pub mod index;
+pub mod panel;
 mod script;
 mod sides;
 

@@ -51,6 +51,7 @@ oracle record N SEED           the trial pieces and N short lists, as text to be
 oracle replay FILE             such a text, replayed on this library
 oracle bench                   times of both sides and of the channel alone
 oracle bench index             times of the index, and of a sorted Vec beside it
+oracle bench panel             times of a panel's replies and requests, and of plain Rust beside them
 oracle bench NAME SIDE [P]     one run by theirs, ours or floor (the channel alone), of P percent of its size";
 
 #[cfg(original)]
@@ -66,6 +67,7 @@ fn main() {
         ["replay", path] => replay::run(path),
         ["bench"] => bench::table(60),
         ["bench", "index"] => bench::index::table(60),
+        ["bench", "panel"] => bench::panel::table(60),
         ["bench", name, side] => bench::once(name, side, 100),
         ["bench", name, side, percent] => bench::once(name, side, number(percent) as usize),
         _ => {

@@ -21,11 +21,13 @@
 //!
 //! An [`Index`] beside a listing answers which entries are from one time to another, and which is the latest at a time.
 //!
+//! The panel's side is there too: [`Call::heard`] reads a host's request, [`PanelReply`] writes a reply, and [`panel`] serves jobs by both.
+//!
 //! What a call comes to has a number: see [`Error`]. A chunk and a name are parts of the receive buffer, lent until the
 //! session's next call; the session allocates nothing but the copy of a FAIL's text that its error keeps.
 //!
 //! Modules: [`adb`] opens the sync service of an ADB server's device; [`raw`] has the static library's functions, and is the only
-//! one with `unsafe`; [`panel`] is a test peer.
+//! one with `unsafe`; [`panel`] is the panel's side, with jobs of its own or a folder: a test peer, or an archive in a panel's place.
 #![deny(unsafe_code)]
 #![deny(missing_docs)]
 
@@ -33,6 +35,7 @@ mod answer;
 mod call;
 mod error;
 mod feature;
+mod heard;
 mod ids;
 mod index;
 mod link;
@@ -43,10 +46,14 @@ mod runs;
 mod session;
 mod settings;
 mod shown;
+mod speak;
 mod transfers;
 
 #[cfg(unix)]
 pub mod adb;
+#[cfg(unix)]
+#[doc(hidden)]
+pub mod archive;
 #[cfg(unix)]
 pub mod panel;
 #[allow(unsafe_code)]
@@ -65,6 +72,7 @@ pub use numbers::{FileMode, SyncFlags};
 pub use session::{Session, Step};
 pub use settings::{Settings, IDS_MOST};
 pub use shown::Shown;
+pub use speak::PanelReply;
 pub use transfers::Failure;
 
 /// README's program, compiled and run as a test.

@@ -1,4 +1,4 @@
-//! The static library's twelve functions, and safe ones of the same shape over them. The only file with `unsafe`.
+//! The static library's fourteen functions, and safe ones of the same shape over them. The only file with `unsafe`.
 //!
 //! A slice crosses as its address and its length. The library keeps no pointer: it reads and writes within the
 //! slices that a call lends it, and only until the call returns. Each function answers every input.
@@ -41,6 +41,13 @@ mod linked {
         ) -> u32;
         pub fn yuglasno_index_entry(
             slots: *const u8, slots_len: usize, area: usize, rank: usize, out: *mut u8, out_len: usize,
+        ) -> u32;
+        pub fn yuglasno_speak(
+            settings: *const u8, settings_len: usize, kind: u32, numbers: *const u8, numbers_len: usize,
+            lent: *const u8, lent_len: usize, out: *mut u8, out_len: usize, told: *mut u8, told_len: usize,
+        ) -> u32;
+        pub fn yuglasno_heard(
+            settings: *const u8, settings_len: usize, bytes: *const u8, bytes_len: usize, out: *mut u8, out_len: usize,
         ) -> u32;
     }
 }
@@ -158,4 +165,27 @@ pub fn index_latest(slots: &[u8], area: usize, time: i64, out: &mut [u8]) -> u32
 /// listing order, its time. 0, or 3 as before, or for a name outside those that the area holds.
 pub fn index_entry(slots: &[u8], area: usize, rank: usize, out: &mut [u8]) -> u32 {
     unsafe { linked::yuglasno_index_entry(slots.as_ptr(), slots.len(), area, rank, out.as_mut_ptr(), out.len()) }
+}
+
+/// Writes one reply of a panel to the front of `out`, under the ids in `settings`, and its length to `told`. `numbers` are those of a stat or
+/// an entry, eight bytes each; `lent` is a name, data or a text. 0; or, with nothing written, 3 for a slice that is too short, a kind that is
+/// none or a number that its field has no room for, 22 or 23 for settings whose ids no file could have brought there, 20 where the
+/// reply does not fit.
+pub fn speak(settings: &[u8], kind: u32, numbers: &[u8], lent: &[u8], out: &mut [u8], told: &mut [u8]) -> u32 {
+    unsafe {
+        linked::yuglasno_speak(
+            settings.as_ptr(), settings.len(), kind, numbers.as_ptr(), numbers.len(), lent.as_ptr(), lent.len(),
+            out.as_mut_ptr(), out.len(), told.as_mut_ptr(), told.len(),
+        )
+    }
+}
+
+/// Reads the request at the front of `bytes`: its call's number, or 0 where more bytes are wanted; where its path or data starts and how long
+/// it is; its mode or time; its flags; its length. 0; or, with nothing written, 3, 22 or 23 as before, 18 for bytes that are no request.
+pub fn heard(settings: &[u8], bytes: &[u8], out: &mut [u8]) -> u32 {
+    unsafe {
+        linked::yuglasno_heard(
+            settings.as_ptr(), settings.len(), bytes.as_ptr(), bytes.len(), out.as_mut_ptr(), out.len(),
+        )
+    }
 }

@@ -74,7 +74,10 @@ fn words_that_say_what_is_wanted() {
         (&["ls", "-l", "/"], "no option -l; behind -- a word may begin with -"),
         (&["--exec", "panel", "ls", "/"], "--exec wants COMMAND [ARGS..] --"),
         (&["--stdio", "pull", "/a", "-"], "with --stdio a FILE can't be -"),
-        (&["--panel", "--stdio", "ls", "/"], "one of --server, --unix, --stdio, --exec and --panel is wanted"),
+        (
+            &["--panel", "--stdio", "ls", "/"],
+            "one of --server, --unix, --stdio, --exec, --panel and --folder is wanted",
+        ),
     ] {
         let (status, said, error) = told(words);
         assert_eq!((status, said.as_str()), (64, ""), "{words:?}");
@@ -102,6 +105,9 @@ fn help_and_version() {
     for (number, text) in MEANINGS.into_iter().filter(|(number, _)| *number < 18) {
         assert!(help.contains(&format!("\n  {number:>2}  {text}\n")), "{number}");
         assert_eq!(meaning(number), Some(text));
+    }
+    for number in [18, 20] {
+        assert!(!help.contains(&format!("\n  {number}  ")), "{number} is no session's");
     }
     for number in [64, 65, 66, 67, 69, 73, 74] {
         assert!(help.contains(&format!("\n  {number}  ")), "{number}");

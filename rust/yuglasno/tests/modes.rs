@@ -147,7 +147,7 @@ fn the_texts_that_are_refused() {
             for cut in [1, usize::MAX] {
                 let mut panel = Panel::with_jobs().with_ids(ids);
                 let said = said(&mut panel, &ids, send(&ids, "/new", text), cut);
-                assert_eq!(said, with(&id(&ids, "FAIL"), b"bad mode"), "{}", text.escape_ascii());
+                assert_eq!(said, with(&id(&ids, "FAIL"), b"bad request"), "{}", text.escape_ascii());
                 assert!(panel.file("/new").is_none(), "{}", text.escape_ascii());
             }
         }

@@ -1,8 +1,9 @@
 //! `transfer` and `yuglasno::adb` by way of an ADB server: the requests that are made, what is said where the server refuses one
 //! or says nothing, and adb's environment.
 mod common;
+use common::archives::{made, text};
 use common::fake::{data, numbers, request as sync_request};
-use common::program::{ended, folder, transfer};
+use common::program::{ended, folder, transfer, PANEL};
 use std::io::{Read, Write};
 use std::net::{TcpListener, TcpStream};
 use std::os::linux::net::SocketAddrExt;
@@ -15,23 +16,32 @@ use yuglasno::{Session, CAPACITY};
 
 /// A server for `hosts` connections: its address, and the requests that it will have heard.
 fn server(hosts: usize, refuses: &'static str) -> (String, JoinHandle<Vec<String>>) {
-    let listener = TcpListener::bind("127.0.0.1:0").unwrap();
-    let address = listener.local_addr().unwrap().to_string();
-    (address, thread::spawn(move || listened(hosts, || listener.accept().unwrap().0, refuses)))
+    server_of(hosts, refuses, Panel::with_jobs)
 }
 
-fn listened<S>(hosts: usize, accept: impl Fn() -> S, refuses: &str) -> Vec<String>
+/// The same with another panel behind it.
+fn server_of(
+    hosts: usize,
+    refuses: &'static str,
+    panel: impl Fn() -> Panel + Send + 'static,
+) -> (String, JoinHandle<Vec<String>>) {
+    let listener = TcpListener::bind("127.0.0.1:0").unwrap();
+    let address = listener.local_addr().unwrap().to_string();
+    (address, thread::spawn(move || listened(hosts, || listener.accept().unwrap().0, refuses, &panel)))
+}
+
+fn listened<S>(hosts: usize, accept: impl Fn() -> S, refuses: &str, panel: &dyn Fn() -> Panel) -> Vec<String>
 where
     for<'a> &'a S: Read + Write,
 {
     let mut heard = Vec::new();
     for _ in 0..hosts {
-        served(&accept(), refuses, &mut heard);
+        served(&accept(), refuses, &mut heard, panel);
     }
     heard
 }
 
-fn served<S>(stream: &S, refuses: &str, heard: &mut Vec<String>)
+fn served<S>(stream: &S, refuses: &str, heard: &mut Vec<String>, panel: &dyn Fn() -> Panel)
 where
     for<'a> &'a S: Read + Write,
 {
@@ -47,7 +57,7 @@ where
             return both.write_all(b"0015shell_v2,stat_v2,ls_v2").unwrap();
         }
         if request == "sync:" {
-            return Panel::with_jobs().cut(9).serve(&mut &*stream, &mut &*stream).unwrap();
+            return panel().cut(9).serve(&mut &*stream, &mut &*stream).unwrap();
         }
     }
 }
@@ -79,6 +89,22 @@ fn a_device_by_its_serial() {
     let (status, said, _) = told(&address, &["--serial", "P98", "ls", "/jobs"]);
     assert_eq!((status, said.lines().count()), (0, 7));
     assert_eq!(heard.join().unwrap(), ["host-serial:P98:features", "host:transport:P98", "sync:"]);
+}
+
+/// An archive behind the server: what `transfer --server` is told of it is what `transfer --folder` says.
+#[test]
+fn an_archive_in_a_devices_place() {
+    let (_, dir) = made("behind a server");
+    for words in
+        [&["ls", "/"][..], &["stat", "/sub/c"], &["pull", "/a", "-"], &["push", PANEL, "/a"], &["stat", "/none"]]
+    {
+        let behind = dir.clone();
+        let (address, heard) = server_of(2, "", move || Panel::read_only(&behind).unwrap());
+        let (status, said, error) = told(&address, words);
+        let here = ended(transfer(&[&["--folder", text(&dir)], words].concat()).output().unwrap());
+        assert_eq!((status, said, error), here, "{words:?}");
+        assert_eq!(heard.join().unwrap(), ["host:features", "host:transport-any", "sync:"]);
+    }
 }
 
 #[test]
@@ -131,7 +157,7 @@ fn adbs_environment() {
     for (socket, listener) in
         [(format!("localfilesystem:{}", path.display()), listener), (format!("localabstract:{name}"), hidden)]
     {
-        let heard = thread::spawn(move || listened(2, || listener.accept().unwrap().0, ""));
+        let heard = thread::spawn(move || listened(2, || listener.accept().unwrap().0, "", &Panel::with_jobs));
         let mut command = transfer(&["stat", "/jobs"]);
         assert_eq!(ended(command.env("ADB_SERVER_SOCKET", socket).output().unwrap()).0, 0);
         assert_eq!(heard.join().unwrap(), any);

@@ -164,8 +164,7 @@ fn the_panels_limits() {
         panel.write_all(&request).unwrap();
         let mut told = Vec::new();
         panel.read_to_end(&mut told).unwrap();
-        let why: &[u8] = if request.starts_with(b"DATA") { b"oversize data message" } else { b"path too long" };
-        assert_eq!(told, with(b"FAIL", why), "{:?}", &request[..8]);
+        assert_eq!(told, with(b"FAIL", b"bad request"), "{:?}", &request[..8]);
     }
 }
 

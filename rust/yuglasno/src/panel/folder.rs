@@ -1,10 +1,10 @@
-//! A folder of this machine as a panel's files.
-use super::files::{Files, ENOENT};
+//! A folder of this machine as a test panel's files, to be read and written.
+use super::files::{or_errno, Files, ENOENT, ENOTDIR, NOT_THERE};
 use crate::answer::StatV2;
 use crate::numbers::FileMode;
 use std::ffi::OsStr;
 use std::fs::{self, File, Permissions};
-use std::io;
+use std::io::{self, ErrorKind, Read};
 use std::os::unix::ffi::{OsStrExt, OsStringExt};
 use std::os::unix::fs::{MetadataExt, PermissionsExt};
 use std::path::{Component, Path, PathBuf};
@@ -43,7 +43,8 @@ impl Folder {
     }
 }
 
-fn numbers(file: &fs::Metadata) -> StatV2 {
+/// A file's own numbers.
+pub(super) fn numbers(file: &fs::Metadata) -> StatV2 {
     StatV2 {
         error: 0,
         dev: file.dev(),
@@ -59,8 +60,26 @@ fn numbers(file: &fs::Metadata) -> StatV2 {
     }
 }
 
-fn errno(error: &io::Error) -> u32 {
-    error.raw_os_error().map_or(ENOENT, |number| number as u32)
+pub(super) fn errno(error: &io::Error) -> u32 {
+    match (error.raw_os_error(), error.kind()) {
+        (Some(number), _) => number as u32,
+        (None, ErrorKind::NotADirectory) => ENOTDIR,
+        _ => ENOENT,
+    }
+}
+
+/// The entries of a folder by their own numbers, in order; none of what can't be listed.
+pub(super) fn entries(place: &Path) -> Vec<(Vec<u8>, StatV2)> {
+    let Ok(found) = fs::read_dir(place) else { return Vec::new() };
+    let mut entries: Vec<_> = found
+        .flatten()
+        .map(|entry| {
+            let stat = entry.metadata().map(|file| numbers(&file)).map_err(|error| errno(&error));
+            (entry.file_name().into_vec(), or_errno(stat))
+        })
+        .collect();
+    entries.sort_by(|a, b| a.0.cmp(&b.0));
+    entries
 }
 
 impl Files for Folder {
@@ -70,21 +89,15 @@ impl Files for Folder {
     }
 
     fn list(&self, path: &[u8]) -> Vec<(Vec<u8>, StatV2)> {
-        let Some(Ok(found)) = self.place(path).map(fs::read_dir) else { return Vec::new() };
-        let mut entries: Vec<_> = found
-            .flatten()
-            .map(|entry| {
-                let stat = entry.metadata().map(|file| numbers(&file)).map_err(|error| errno(&error));
-                (entry.file_name().into_vec(), super::files::or_errno(stat))
-            })
-            .collect();
-        entries.sort_by(|a, b| a.0.cmp(&b.0));
-        entries
+        self.place(path).map_or(Vec::new(), |place| entries(&place))
     }
 
-    fn read(&self, path: &[u8]) -> Result<Vec<u8>, String> {
-        let place = self.place(path).ok_or("open failed: No such file or directory")?;
-        fs::read(place).map_err(|error| format!("open failed: {error}"))
+    fn open(&self, path: &[u8]) -> Result<Box<dyn Read>, String> {
+        let place = self.place(path).ok_or(NOT_THERE)?;
+        match File::open(place) {
+            Ok(file) => Ok(Box::new(file)),
+            Err(error) => Err(format!("open failed: {error}")),
+        }
     }
 
     fn may_write(&self, path: &[u8]) -> Result<(), String> {

@@ -1,8 +1,9 @@
 //! A panel's own jobs, in memory.
-use super::files::{Files, ENOENT};
+use super::files::{or_errno, Files, ENOENT, IS_FOLDER, NOT_THERE, READ_ONLY};
 use crate::answer::StatV2;
 use crate::numbers::FileMode;
 use std::collections::BTreeMap;
+use std::io::{Cursor, Read};
 
 struct Job {
     mode: FileMode,
@@ -83,15 +84,15 @@ impl Files for Jobs {
                 names.push(name);
             }
         }
-        let stat = |name: &[u8]| super::files::or_errno(self.stat(&[&inside, name].concat()));
+        let stat = |name: &[u8]| or_errno(self.stat(&[&inside, name].concat()));
         names.into_iter().map(|name| (name.clone(), stat(&name))).collect()
     }
 
-    fn read(&self, path: &[u8]) -> Result<Vec<u8>, String> {
+    fn open(&self, path: &[u8]) -> Result<Box<dyn Read>, String> {
         match self.0.get(path) {
-            Some(job) => Ok(job.data.clone()),
-            None if self.is_folder(trimmed(path)) => Err("read failed: Is a directory".into()),
-            None => Err("open failed: No such file or directory".into()),
+            Some(job) => Ok(Box::new(Cursor::new(job.data.clone()))),
+            None if self.is_folder(trimmed(path)) => Err(IS_FOLDER.into()),
+            None => Err(NOT_THERE.into()),
         }
     }
 
@@ -99,7 +100,7 @@ impl Files for Jobs {
         match path.first() {
             _ if self.is_folder(trimmed(path)) => Err("couldn't create file: Is a directory".into()),
             Some(b'/') => Ok(()),
-            _ => Err("couldn't create file: Read-only file system".into()),
+            _ => Err(READ_ONLY.into()),
         }
     }
 

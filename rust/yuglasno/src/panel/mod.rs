@@ -1,31 +1,40 @@
-//! A test peer: the panel's side of sync, v1 and v2, written from SYNC.TXT and file_sync_protocol.h with none of the
-//! session's code. It serves a few jobs of its own or a folder, in memory or over a stream.
+//! The panel's side of sync, v1 and v2, in memory or over a stream: a test peer with a few jobs of its own or a folder, or an archive in the
+//! place of the panel that it came from. It hears by the library's reader of requests ([`Call::heard`](crate::Call::heard)), and speaks
+//! by its writer of replies ([`PanelReply`](crate::PanelReply)).
+mod answers;
+mod archived;
 mod files;
 mod folder;
 mod jobs;
-mod letters;
-mod replies;
-mod requests;
+mod read_only;
+mod summed;
+mod under_way;
+mod unserved;
 
-use crate::answer::StatV2;
-use crate::ids::{Ids, PUBLISHED_IDS};
+pub use unserved::Unserved;
+
+use crate::error::Error;
+use crate::ids::Ids;
 use crate::numbers::FileMode;
+use crate::raw::SETTINGS;
+use crate::settings::Settings;
 use files::Files;
-use letters::{Id, Letters};
-use requests::{first, Request, Version};
+use std::fs::{self, File, TryLockError};
 use std::io::{self, ErrorKind, Read, Write};
-use std::path::PathBuf;
+use std::path::{Path, PathBuf};
+use under_way::{Turn, UnderWay};
 
 /// A panel. It is a [`Link`](crate::Link) as it stands: requests are written to it, and its replies read from it, in
 /// pieces as [`Panel::cut`] says. With nothing to say it reads as closed.
 ///
-/// As on AOSP's service a FAIL ends it, once a push under way is through.
+/// As on AOSP's service a FAIL ends it, once a push under way is through. What is no request gets one too, `bad request`.
 pub struct Panel {
     files: Box<dyn Files>,
-    letters: Letters,
+    settings: Settings,
     heard: Vec<u8>,
     replies: Vec<u8>,
     said: usize,
+    under_way: Option<UnderWay>,
     push: Push,
     ended: bool,
     cut: usize,
@@ -59,14 +68,30 @@ impl Panel {
         Self::with_files(Box::new(folder::Folder::new(root.into())))
     }
 
-    fn with_files(files: Box<dyn Files>) -> Self {
-        let (letters, heard, replies) = (Letters(PUBLISHED_IDS), Vec::new(), Vec::new());
-        Self { files, letters, heard, replies, said: 0, push: Push::None, ended: false, cut: usize::MAX, turns: 0 }
+    /// A panel that serves a folder of this machine as its root and writes nothing. An archive that `transfer archive` made has the jobs
+    /// that both its lists have, by the numbers that the panel said; any other folder its files, by their own. Below the folder no
+    /// symbolic link is followed. An archive's lists are read now, and no run of `archive` writes to it as long as it is served.
+    pub fn read_only(root: impl Into<PathBuf>) -> Result<Self, Unserved> {
+        let root = root.into();
+        let opened = opened(&root)?;
+        Ok(match archived::Archived::read(&root, &opened)? {
+            Some(archive) => Self::with_files(Box::new(archive)),
+            None => Self::with_files(Box::new(read_only::ReadOnly::new(root))),
+        })
     }
 
-    /// The same panel, which hears and says these ids and no others.
+    fn with_files(files: Box<dyn Files>) -> Self {
+        let (settings, heard, replies) = (Settings::published(), Vec::new(), Vec::new());
+        let (push, under_way, cut) = (Push::None, None, usize::MAX);
+        Self { files, settings, heard, replies, said: 0, under_way, push, ended: false, cut, turns: 0 }
+    }
+
+    /// The same panel, which hears and says these ids and no others. Where they are no table, it says nothing: its first request is
+    /// an error, 22 or 23.
     pub fn with_ids(mut self, ids: Ids) -> Self {
-        self.letters = Letters(ids);
+        let mut bytes = [0; SETTINGS];
+        bytes[..ids.as_flattened().len()].copy_from_slice(ids.as_flattened());
+        self.settings = Settings::from_bytes(bytes);
         self
     }
 
@@ -78,7 +103,8 @@ impl Panel {
 
     /// A file as it is on the panel.
     pub fn file(&self, path: &str) -> Option<Vec<u8>> {
-        self.files.read(path.as_bytes()).ok()
+        let (mut file, mut bytes) = (self.files.open(path.as_bytes()).ok()?, Vec::new());
+        file.read_to_end(&mut bytes).ok().map(|_| bytes)
     }
 
     /// Puts a file on the panel.
@@ -90,114 +116,63 @@ impl Panel {
     pub fn serve(&mut self, reader: &mut impl Read, writer: &mut impl Write) -> io::Result<()> {
         let mut window = [0; 16_384];
         loop {
-            while self.said < self.replies.len() {
-                let count = self.read(&mut window)?;
-                writer.write_all(&window[..count])?;
-                writer.flush()?;
+            loop {
+                match self.read(&mut window)? {
+                    0 => break,
+                    count => writer.write_all(&window[..count]).and_then(|()| writer.flush())?,
+                }
             }
             if self.ended {
                 return Ok(());
             }
             match reader.read(&mut window)? {
                 0 => return Ok(()),
-                count => self.hear(&window[..count]),
+                count => self.write_all(&window[..count])?,
             }
         }
     }
 
-    fn hear(&mut self, bytes: &[u8]) {
-        self.heard.extend_from_slice(bytes);
-        let mut at = 0;
-        while !self.ended {
-            match first(&self.letters, &self.heard[at..]) {
-                Ok(None) => break,
-                Ok(Some((request, length))) => {
-                    at += length;
-                    self.answer(request);
-                }
-                Err(text) => {
-                    self.fail(&text);
-                    self.ended = true;
+    /// Makes the next message of what is under way, where none waits to be read.
+    fn go_on(&mut self) -> Result<(), Error> {
+        while self.said == self.replies.len() {
+            let Some(under_way) = &mut self.under_way else { break };
+            match under_way.next(&self.settings, &mut self.replies)? {
+                Turn::Said => continue,
+                Turn::Over => self.under_way = None,
+                Turn::Failed(text) => {
+                    self.under_way = None;
+                    self.end_with(&text)?;
                 }
             }
+            self.attend()?;
         }
-        self.heard.drain(..at);
+        Ok(())
     }
 
-    fn fail(&mut self, text: &str) {
-        replies::fail(&mut self.replies, &self.letters, text);
+    /// An answer of the library that leaves nothing to say: it ends the panel, and is whoever reads or writes' to know.
+    fn broken(&mut self, error: Error) -> io::Error {
+        (self.ended, self.under_way) = (true, None);
+        io::Error::other(error)
     }
+}
 
-    fn answer(&mut self, request: Request) {
-        match request {
-            Request::Stat(Version::V1, path) => {
-                replies::stat(&mut self.replies, &self.letters, &self.files.stat(&path).unwrap_or_default());
-            }
-            Request::Stat(Version::V2, path) => {
-                replies::stat_v2(&mut self.replies, &self.letters, &files::or_errno(self.files.stat(&path)));
-            }
-            Request::List(version, path) => {
-                for (name, stat) in self.dots(&path).into_iter().chain(self.files.list(&path)) {
-                    replies::entry(&mut self.replies, &self.letters, version, &name, &stat);
-                }
-                replies::listing_end(&mut self.replies, &self.letters, version);
-            }
-            Request::Recv(path) => match self.files.read(&path) {
-                Ok(data) => replies::data(&mut self.replies, &self.letters, &data),
-                Err(text) => {
-                    self.fail(&text);
-                    self.ended = true;
-                }
-            },
-            Request::Send { path, mode, keep } => match self.files.may_write(&path) {
-                Ok(()) => self.push = Push::Taking { path, mode, keep, data: Vec::new() },
-                Err(text) => {
-                    self.fail(&text);
-                    self.push = Push::Failed;
-                }
-            },
-            Request::Data(bytes) => match &mut self.push {
-                Push::Taking { data, .. } => data.extend_from_slice(&bytes),
-                Push::Failed => {}
-                Push::None => self.astray(Id::Data),
-            },
-            Request::Done(mtime) => self.finish(mtime),
-            Request::Quit => self.ended = true,
-        }
+/// A folder, opened and locked against runs that write to it; where the file system has no locks, opened alone.
+fn opened(root: &Path) -> Result<File, Unserved> {
+    let unserved = |error| Unserved::Folder(root.into(), error);
+    // what is no folder is not opened: a pipe would wait for its other end
+    if !fs::metadata(root).map_err(unserved)?.is_dir() {
+        return Err(unserved(ErrorKind::NotADirectory.into()));
     }
-
-    /// What a folder lists before its entries, both with its own numbers here; nothing of what is no folder.
-    fn dots(&self, path: &[u8]) -> Vec<(Vec<u8>, StatV2)> {
-        match self.files.stat(path) {
-            Ok(stat) if stat.mode.is_folder() => vec![(b".".to_vec(), stat), (b"..".to_vec(), stat)],
-            _ => Vec::new(),
-        }
-    }
-
-    fn finish(&mut self, mtime: u32) {
-        match std::mem::replace(&mut self.push, Push::None) {
-            Push::Taking { path, mode, keep, data } => {
-                match if keep { self.files.write(&path, mode, mtime, &data) } else { Ok(()) } {
-                    Ok(()) => replies::okay(&mut self.replies, &self.letters),
-                    Err(text) => {
-                        self.fail(&text);
-                        self.ended = true;
-                    }
-                }
-            }
-            Push::Failed => self.ended = true,
-            Push::None => self.astray(Id::Done),
-        }
-    }
-
-    fn astray(&mut self, id: Id) {
-        self.fail(&format!("{} outside a push", self.letters.of(id).escape_ascii()));
-        self.ended = true;
+    let opened = File::open(root).map_err(unserved)?;
+    match opened.try_lock_shared() {
+        Err(TryLockError::WouldBlock) => Err(Unserved::Busy(root.into())),
+        _ => Ok(opened),
     }
 }
 
 impl Read for Panel {
     fn read(&mut self, window: &mut [u8]) -> io::Result<usize> {
+        self.go_on().map_err(|error| self.broken(error))?;
         let waiting = &self.replies[self.said..];
         self.turns = self.turns.wrapping_mul(6_364_136_223_846_793_005).wrapping_add(1_442_695_040_888_963_407);
         let piece = if self.cut == usize::MAX { self.cut } else { 1 + (self.turns >> 33) as usize % self.cut };
@@ -217,7 +192,8 @@ impl Write for Panel {
         if self.ended {
             return Err(ErrorKind::BrokenPipe.into());
         }
-        self.hear(piece);
+        self.heard.extend_from_slice(piece);
+        self.attend().map_err(|error| self.broken(error))?;
         Ok(piece.len())
     }
 

@@ -3,6 +3,7 @@ use crate::crossing::{fault, refused, Function, Slices};
 use crate::index::{self, Beside};
 use crate::lent::Lent;
 use crate::opening::opened;
+use crate::panel_side;
 use crate::random::Random;
 use crate::stream::reply;
 use crate::Counts;
@@ -30,6 +31,9 @@ pub struct Episode<'c> {
 impl<'c> Episode<'c> {
     /// Up to 80 steps after an opening.
     pub fn run(mut random: Random, counts: &'c mut Counts) -> Result<(), String> {
+        if random.one_in(2) {
+            panel_side::run(&mut random, counts)?;
+        }
         let Some((slices, ids)) = opened(&mut random, counts)? else { return Ok(()) };
         let beside = if random.one_in(4) { Some(Beside::opened(&mut random, counts)?) } else { None };
         let (asked, altered, over, call, incoming) = (0, false, false, 0, Vec::new());

@@ -1,7 +1,7 @@
 //! The exported functions under any input: `boundary CALLS SEED`. Sessions are run with random calls and reports; between
 //! their steps, and on copies of them, the functions are called with records, buffers, paths, call numbers, flags and
-//! counts of any value. Settings and ids files are of any kind too, and so are the slots of an index, and the replies that it is handed. Every
-//! crossing is checked: see `crossing.rs`, and `index.rs`. Exit status 1 at the first fault.
+//! counts of any value. Settings and ids files are of any kind too, and so are the slots of an index, and the replies that it is handed; and
+//! what a panel says and hears. Every crossing is checked: see `crossing.rs`, `index.rs` and `panel_side.rs`. Exit status 1 at the first fault.
 #![forbid(unsafe_code)]
 
 mod crossing;
@@ -10,6 +10,8 @@ mod index;
 mod lent;
 mod model;
 mod opening;
+mod panel_model;
+mod panel_side;
 mod random;
 mod stream;
 mod tables;
@@ -30,6 +32,8 @@ pub struct Counts {
     pub altered: u64,
     /// Calls of an index.
     pub indexed: u64,
+    /// Replies spoken and requests heard.
+    pub of_the_panel: u64,
 }
 
 fn main() -> ExitCode {
@@ -58,14 +62,17 @@ fn print(counts: &Counts, seed: u64) {
     let met = counts.answered.iter().enumerate().filter(|(_, n)| **n > 0);
     let each: Vec<String> = met.map(|(number, n)| format!("{number}: {n}")).collect();
     println!("answers by number: {}", each.join(", "));
-    println!("on records that were altered: {} calls; of an index: {} calls", counts.altered, counts.indexed);
+    println!(
+        "on records that were altered: {} calls; of an index: {} calls; of replies spoken and requests heard: {} calls",
+        counts.altered, counts.indexed, counts.of_the_panel
+    );
     println!(
         "{} calls (seed {seed}): {} opened, {} refused, {} answered, {} asked for reads, {} for writes, {} for the close; \
          no byte out of place, no part outside its slice",
         counts.calls,
         counts.opened,
-        sum(&counts.answered[1..12]) + sum(&counts.answered[19..]),
-        counts.answered[0] + sum(&counts.answered[12..19]),
+        sum(&counts.answered[1..12]) + sum(&counts.answered[18..]),
+        counts.answered[0] + sum(&counts.answered[12..18]),
         counts.asked[1],
         sum(&counts.asked[2..5]),
         counts.asked[5],

@@ -41,6 +41,11 @@ pub enum Place {
     Panel {
         cut: Option<usize>,
     },
+    /// A folder in the panel's place, which is only read.
+    Folder {
+        dir: PathBuf,
+        cut: Option<usize>,
+    },
 }
 
 /// A FILE that is `-` is standard input or output. A listing has all entries, unless it says which.
@@ -115,6 +120,7 @@ impl Given {
             b"--stdio" => self.places.push(Place::Stdio),
             b"--exec" => self.places.push(Place::Exec(program(words)?)),
             b"--panel" => self.places.push(Place::Panel { cut: None }),
+            b"--folder" => self.places.push(Place::Folder { dir: needed(words, "--folder", "DIR")?.into(), cut: None }),
             b"--serial" => self.serial = Some(text(words, "--serial", "S")?),
             b"--timeout" => self.timeout = Some(seconds(words)?),
             b"--cut" => self.cut = Some(number(words, "--cut")?),
@@ -163,13 +169,15 @@ impl Given {
         let default = || Place::Server { address: None, serial: None, timeout: None };
         let mut place = places.next().unwrap_or_else(default);
         if places.next().is_some() {
-            return Err("one of --server, --unix, --stdio, --exec and --panel is wanted, and more are given".into());
+            return Err(
+                "one of --server, --unix, --stdio, --exec, --panel and --folder is wanted, and more are given".into()
+            );
         }
         let (mut serials, mut timeouts, mut cuts) = (None, None, None);
         match &mut place {
             Place::Server { serial, timeout, .. } => (serials, timeouts) = (Some(serial), Some(timeout)),
             Place::Unix { timeout, .. } => timeouts = Some(timeout),
-            Place::Panel { cut } => cuts = Some(cut),
+            Place::Panel { cut } | Place::Folder { cut, .. } => cuts = Some(cut),
             Place::Stdio if command.takes_stdio() => return Err("with --stdio a FILE can't be -".into()),
             Place::Stdio | Place::Exec(_) => {}
         }
@@ -178,7 +186,7 @@ impl Given {
         }
         set(serials, self.serial, "--serial goes with --server")?;
         set(timeouts, self.timeout, "--timeout goes with --server and --unix")?;
-        set(cuts, self.cut, "--cut goes with --panel")?;
+        set(cuts, self.cut, "--cut goes with --panel and --folder")?;
         let (capacity, settings) = (self.capacity.unwrap_or(CAPACITY), Settings::published());
         Ok(Plan { place, features: self.features, capacity, ids: self.ids, settings, command })
     }

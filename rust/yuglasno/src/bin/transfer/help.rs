@@ -24,6 +24,7 @@ where the panel is:
   --stdio                           standard input and output; what is said goes to standard error
   --exec COMMAND [ARGS..] --        a program's standard input and output
   --panel [--cut N]                 a panel in this program, with a few jobs under /jobs; its replies come in pieces of 1 to N bytes
+  --folder DIR [--cut N]            no panel: what an archive in DIR has of one, or DIR's files, with DIR as /; DIR is only read (below)
 
 options:
   --features LIST                   the panel's features, such as stat_v2,ls_v2,sendrecv_v2, where it does not say them
@@ -36,6 +37,12 @@ environment, as adb has it: ANDROID_SERIAL; ADB_SERVER_SOCKET, or ANDROID_ADB_SE
 
 A pull writes to a file of its own in FILE's folder, which gets FILE's name when it is on disk and the panel's numbers from
 before and after agree with its bytes. A push is cut off where FILE changes meanwhile.
+
+--folder answers as the panel did where DIR is an archive: size, mtime and mode of each job that both lists have, and its bytes, held to its
+sum. All else of a job is 0, and folders have mode 40555; nothing else in DIR is shown. A job whose file is gone or has another size is
+errno 5 (v1 has no such number: it is not listed), and a pull of it, or of one whose sum is another, ends with a FAIL: `transfer verify DIR`
+says more. Any other DIR has its files' own numbers. Below DIR no symbolic link is followed. A push is refused, and so is a FILE or an archive
+below DIR (73). 69 where DIR is not there, 66 where a list of it can't be read, 73 while `archive` is at work on it.
 
 A, B and T are Unix seconds, such as 892000000 or -5, or UTC: 1998-04-12, 1998-04-12T12:30 or 1998-04-12T12:30:59, also with a blank for
 the T. A is the first second of such a day or minute, B and T are its last: --from 1998-04-12 --to 1998-04-12 is that day. Either of A and
@@ -52,12 +59,12 @@ It must be a regular file, and - is a file of that name.
 exit status, which is also the number that a message begins with:
 ";
 
-/// The answer that is the reader of requests' own: no session has it.
-const BAD_REQUEST: u32 = 18;
+/// The answers of the reader of requests and the writer of replies: no session has them.
+const OF_THE_PANEL: [u32; 2] = [18, 20];
 
 pub fn text() -> String {
     let mut text = USAGE.to_string();
-    let answers = MEANINGS.into_iter().filter(|(number, _)| *number != BAD_REQUEST);
+    let answers = MEANINGS.into_iter().filter(|(number, _)| !OF_THE_PANEL.contains(number));
     for (number, meaning) in answers.chain(STATUSES.map(|(number, meaning)| (number.into(), meaning))) {
         let _ = writeln!(text, "  {number:>2}  {meaning}");
     }

@@ -6,6 +6,7 @@ mod arguments;
 mod by_time;
 mod check;
 mod commands;
+mod folder;
 mod help;
 mod ids;
 mod keep;
@@ -31,7 +32,8 @@ fn main() -> ExitCode {
     signals::taken_over();
     let done = match arguments::parsed(std::env::args_os().skip(1)) {
         Ok(Request::Run(mut plan)) => {
-            ids::loaded(&mut plan).and_then(|()| run(&plan)).map_err(|stop| ids::hinted(stop, &plan))
+            let ready = folder::is_there(&plan).and_then(|()| ids::loaded(&mut plan));
+            ready.and_then(|()| run(&plan)).map_err(|stop| ids::hinted(stop, &plan))
         }
         Ok(Request::Help) => printed(&help::text()),
         Ok(Request::Version) => printed(concat!("transfer ", env!("CARGO_PKG_VERSION"), "\n")),
@@ -67,6 +69,7 @@ fn run(plan: &Plan) -> Result<(), Stop> {
 /// The command, then quit. The command's failure is told before that of quit.
 fn with_a_panel(plan: &Plan, said: &mut dyn Write) -> Result<(), Stop> {
     let target = commands::target(&plan.command)?;
+    target.as_ref().map_or(Ok(()), |target| folder::is_spared(plan, &target.folder))?;
     let mut panel = Panel::opened(plan)?;
     match commands::run(&mut panel.peer(), &plan.command, target.as_ref(), said) {
         Err(stop) if stop.dropped => {

@@ -55,12 +55,15 @@ pub fn reached(plan: &Plan) -> Result<Reached, Stop> {
         Place::Unix { path, timeout } => unix(path, *timeout, given()),
         Place::Stdio => Ok(Reached::new(Pair::new(io::stdin(), io::stdout()), given())),
         Place::Exec(words) => exec(words, given()),
-        Place::Panel { cut } => {
-            let panel = Panel::with_jobs().with_ids(plan.settings.ids()).cut(cut.unwrap_or(usize::MAX));
-            let banner = plan.features.as_deref().map_or(Panel::BANNER.to_vec(), banner_of);
-            Ok(Reached::new(panel, banner))
-        }
+        Place::Panel { cut } => Ok(here(Panel::with_jobs(), *cut, plan)),
+        Place::Folder { dir, cut } => Ok(here(Panel::read_only(dir)?, *cut, plan)),
     }
+}
+
+/// A panel in this program, under the ids that were given.
+fn here(panel: Panel, cut: Option<usize>, plan: &Plan) -> Reached {
+    let banner = plan.features.as_deref().map_or(Panel::BANNER.to_vec(), banner_of);
+    Reached::new(panel.with_ids(plan.settings.ids()).cut(cut.unwrap_or(usize::MAX)), banner)
 }
 
 fn banner_of(features: &[u8]) -> Vec<u8> {

@@ -1,6 +1,7 @@
 //! Why the program stops short: what it says, and its exit status.
 use std::fmt::Display;
 use std::io;
+use yuglasno::panel::Unserved;
 use yuglasno::{adb, code_of, Error, Failure};
 
 /// The status is the session's answer, by its number, or one of those below; the text begins with it.
@@ -63,17 +64,21 @@ impl Stop {
     }
 }
 
+/// The panel's errno of an input or output error.
+const EIO: u32 = 5;
+
 /// What helps against an answer, where something on the command line does.
-fn hint(number: u32) -> &'static str {
-    match number {
-        17 => "; a larger one: --capacity N, and 65544 takes every DATA message",
+fn hint(error: &Error) -> &'static str {
+    match error {
+        Error::Errno(EIO) => "; with --folder: its file is not as DIR lists it, and `transfer verify DIR` says more",
+        Error::TooLarge => "; a larger one: --capacity N, and 65544 takes every DATA message",
         _ => "",
     }
 }
 
 impl From<Error> for Stop {
     fn from(error: Error) -> Self {
-        let text = format!("{error}{}", hint(error.number()));
+        let text = format!("{error}{}", hint(&error));
         Self { status: u8::try_from(error.number()).unwrap_or(IO), text, dropped: false }
     }
 }
@@ -87,6 +92,17 @@ impl From<adb::Error> for Stop {
         let many = matches!(&error, adb::Error::Refused { text, .. } if text.starts_with(b"more than one"));
         let hint = if many { "; --serial S or ANDROID_SERIAL chooses one" } else { "" };
         Self { status, text: format!("{status}: {error}{code}{hint}"), dropped: false }
+    }
+}
+
+impl From<Unserved> for Stop {
+    fn from(unserved: Unserved) -> Self {
+        let status = match unserved {
+            Unserved::Folder(..) => UNAVAILABLE,
+            Unserved::List(..) => NO_INPUT,
+            Unserved::Busy(_) => CANNOT_CREATE,
+        };
+        Self { status, text: format!("{status}: {unserved}"), dropped: false }
     }
 }
 

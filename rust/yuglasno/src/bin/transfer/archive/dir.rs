@@ -2,7 +2,6 @@
 //!
 //! Drafts have a folder of their own, so that what an interrupted run leaves is known by its place, and no name of a job is
 //! taken for a draft's. It is on DIR's file system, so that a draft gets its name by a rename, and goes with the run.
-use super::names::{DETAILS, SUMS, UNFINISHED};
 use crate::keep::flush_folder;
 use crate::say::say;
 use crate::stop::{Stop, CANNOT_CREATE, NO_INPUT};
@@ -10,6 +9,7 @@ use std::fs::{self, File, OpenOptions, TryLockError};
 use std::io::{self, ErrorKind};
 use std::os::unix::fs::OpenOptionsExt;
 use std::path::{Path, PathBuf};
+use yuglasno::archive::names::{DETAILS, SUMS, UNFINISHED};
 
 pub struct Dir {
     pub path: PathBuf,

@@ -1,7 +1,5 @@
 //! One job from the panel to a draft that is whole and checked, and has its numbers.
 use super::dir::Dir;
-use super::numbers::Numbers;
-use super::sha256::Sha256;
 use super::store::Pulled;
 use super::walk::Job;
 use crate::keep::set_time;
@@ -11,6 +9,8 @@ use crate::stop::{Stop, IO, NOT_AS_SAID};
 use std::fs::{self, File, Permissions};
 use std::io;
 use std::os::unix::fs::PermissionsExt;
+use yuglasno::archive::numbers::Numbers;
+use yuglasno::archive::sha256::Sha256;
 use yuglasno::Shown;
 
 struct Digest(Sha256);

@@ -3,13 +3,14 @@
 //! Lines are added at the list's end, in one write, and flushed. What a crash leaves of such a write is a torn end: bytes
 //! that are no line. It is passed over where the list is read, and goes when the list is written anew: as a file of its
 //! own, flushed, that then takes the list's name.
-use super::lines::{self, Value};
 use crate::keep::flush_folder;
 use crate::stop::{Stop, IO, NO_INPUT};
 use std::collections::BTreeMap;
 use std::fs::{self, File, OpenOptions};
-use std::io::{self, ErrorKind, Write};
+use std::io::{self, Write};
 use std::path::{Path, PathBuf};
+use yuglasno::archive::lines::{self, Value};
+use yuglasno::archive::listed::{text, Listed};
 
 pub struct List<V> {
     pub path: PathBuf,
@@ -28,31 +29,9 @@ impl<V: Value> List<V> {
     /// The list as it is on disk, or an empty one where it is not there.
     pub fn read(path: PathBuf, head: &'static str) -> Result<Self, Stop> {
         let text = text(&path).map_err(|e| Stop::new(NO_INPUT, path.display(), e))?;
-        let mut list = Self { path, head, files: BTreeMap::new(), bad: vec![], torn: false, there: text.is_some() };
-        let text = text.unwrap_or(head.into());
-        let lines = text.strip_prefix(head.as_bytes()).unwrap_or_else(|| {
-            list.bad.push(1);
-            let end = text.iter().position(|byte| *byte == b'\n').map_or(text.len(), |at| at + 1);
-            &text[end..]
-        });
-        list.take(lines);
-        Ok(list)
-    }
-
-    fn take(&mut self, text: &[u8]) {
-        let mut unread = Vec::new();
-        let first = 1 + self.head.lines().count();
-        for (number, line) in (first..).zip(text.split_inclusive(|byte| *byte == b'\n')) {
-            let Some((name, value)) = line.strip_suffix(b"\n").and_then(lines::read) else {
-                unread.push(number);
-                continue;
-            };
-            self.bad.append(&mut unread);
-            if self.files.insert(name, value).is_some() {
-                self.bad.push(number);
-            }
-        }
-        self.torn = !unread.is_empty();
+        let there = text.is_some();
+        let Listed { files, bad, torn } = Listed::read(&text.unwrap_or(head.into()), head);
+        Ok(Self { path, head, files, bad, torn, there })
     }
 
     /// Adds files that the list does not have, and flushes it. What can't be added whole is cut off again.
@@ -77,16 +56,6 @@ impl<V: Value> List<V> {
 
     fn stop(&self, error: &io::Error) -> Stop {
         Stop::new(IO, self.path.display(), error)
-    }
-}
-
-/// The text of a regular file; none where nothing is there.
-fn text(path: &Path) -> io::Result<Option<Vec<u8>>> {
-    match fs::symlink_metadata(path) {
-        Ok(found) if found.is_file() => fs::read(path).map(Some),
-        Ok(_) => Err(io::Error::new(ErrorKind::InvalidInput, "it is no regular file")),
-        Err(error) if error.kind() == ErrorKind::NotFound => Ok(None),
-        Err(error) => Err(error),
     }
 }
 

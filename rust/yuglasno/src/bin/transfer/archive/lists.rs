@@ -4,17 +4,15 @@
 //!
 //! So a job's line in SHA256SUMS goes before its file is replaced, its line in DETAILS comes before the file, and its line
 //! in SHA256SUMS after it, each step on disk before the next: [`Lists::announce`], the renames, [`Lists::confirm`].
-use super::folders;
 use super::list::List;
-use super::names::{DETAILS, SUMS, UNFINISHED};
-use super::numbers::Numbers;
-use super::sha256::Sum;
 use crate::stop::{Stop, NO_INPUT};
 use std::fs;
 use std::path::{Path, PathBuf};
-
-/// The first line of DETAILS.
-const HEAD: &str = "# size, mtime in Unix seconds, mode in octal digits, name; names are written as in SHA256SUMS\n";
+use yuglasno::archive::folders;
+use yuglasno::archive::listed::{fault, DETAILS_HEAD};
+use yuglasno::archive::names::{DETAILS, SUMS, UNFINISHED};
+use yuglasno::archive::numbers::Numbers;
+use yuglasno::archive::sha256::Sum;
 
 pub struct Lists {
     pub sums: List<Sum>,
@@ -26,7 +24,7 @@ pub struct Lists {
 impl Lists {
     /// As they are on disk.
     pub fn read(dir: &Path) -> Result<Self, Stop> {
-        let (sums, details) = (List::read(dir.join(SUMS), "")?, List::read(dir.join(DETAILS), HEAD)?);
+        let (sums, details) = (List::read(dir.join(SUMS), "")?, List::read(dir.join(DETAILS), DETAILS_HEAD)?);
         Ok(Self { sums, details, by: dir.join(UNFINISHED) })
     }
 
@@ -54,7 +52,7 @@ impl Lists {
     pub fn faults(&self) -> Vec<(&'static str, String)> {
         let mut faults = Vec::new();
         for (list, lines) in [(SUMS, &self.sums.bad), (DETAILS, &self.details.bad)] {
-            faults.extend(lines.iter().map(|line| (list, format!("line {line} is none of an archive's"))));
+            faults.extend(lines.iter().map(|line| (list, fault(*line))));
         }
         if self.sums.there && !self.details.there {
             faults.push((DETAILS, format!("it is not there, and {SUMS} is")));

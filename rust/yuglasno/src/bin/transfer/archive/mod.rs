@@ -1,14 +1,9 @@
 //! `archive` and `verify`: the jobs of a panel's folder in a folder of this machine, with lists of what they are.
 mod dir;
 mod fetch;
-mod folders;
-mod lines;
 mod list;
 mod lists;
-mod names;
-mod numbers;
 mod report;
-mod sha256;
 mod store;
 mod verify;
 mod walk;
@@ -16,6 +11,7 @@ mod walk;
 pub use verify::run as verify;
 
 use crate::arguments::Plan;
+use crate::folder::is_spared;
 use crate::panel::Panel;
 use crate::stop::{Stop, LEFT_OUT};
 use report::Report;
@@ -24,6 +20,7 @@ use std::io::{self, Write};
 use std::path::PathBuf;
 use store::{LeftOut, Store};
 use walk::Job;
+use yuglasno::archive::{folders, numbers};
 
 /// What is archived, and where.
 pub struct Order {
@@ -43,6 +40,7 @@ struct Run<'p> {
 
 /// Brings every job of the folder that DIR does not hold yet, in one session.
 pub fn run(plan: &Plan, order: &Order, said: &mut dyn Write) -> Result<(), Stop> {
+    is_spared(plan, &order.dir)?;
     let (mut panel, mut report) = (Panel::opened(plan)?, Report::new());
     let jobs = walk::jobs(&mut panel, &order.folder, order.deep, &mut report)?;
     let store = Store::opened(&order.dir)?;

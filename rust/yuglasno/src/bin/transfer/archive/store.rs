@@ -5,10 +5,7 @@
 //! gets there only behind the flush of its bytes and of its name. An interruption costs the jobs of one batch, which are
 //! pulled again. Several drafts are flushed at the same time, because a journal takes them in one go.
 use super::dir::Dir;
-use super::folders;
 use super::lists::Lists;
-use super::numbers::Numbers;
-use super::sha256::{sum_of, Sum};
 use crate::keep::flush_folder;
 use crate::stop::{Stop, IO};
 use std::collections::BTreeSet;
@@ -17,6 +14,9 @@ use std::io;
 use std::path::{Path, PathBuf};
 use std::thread;
 use std::time::{Duration, Instant};
+use yuglasno::archive::folders;
+use yuglasno::archive::numbers::Numbers;
+use yuglasno::archive::sha256::{sum_of, Sum};
 
 /// A batch ends with so many jobs, or after so long.
 const MOST: usize = 128;

@@ -1,10 +1,6 @@
 //! `verify`: an archive read back against its lists, without a panel.
 use super::dir::read_only;
-use super::folders;
 use super::lists::Lists;
-use super::names::{joined, DETAILS, SUMS, UNFINISHED};
-use super::numbers::Numbers;
-use super::sha256::{sum_of, Sum};
 use crate::progress::Line;
 use crate::stop::{Stop, DAMAGED, NO_INPUT, UNLISTED};
 use std::collections::BTreeSet;
@@ -13,6 +9,10 @@ use std::io::{self, Write};
 use std::os::unix::ffi::OsStrExt;
 use std::os::unix::fs::MetadataExt;
 use std::path::Path;
+use yuglasno::archive::folders;
+use yuglasno::archive::names::{joined, DETAILS, SUMS, UNFINISHED};
+use yuglasno::archive::numbers::Numbers;
+use yuglasno::archive::sha256::{sum_of, Sum};
 use yuglasno::Shown;
 
 /// A line for each thing that is not as it should be, and how many there were.

@@ -1,11 +1,11 @@
 //! What there is to archive: the regular files of a panel's folder, by its listings.
-use super::names::{joined, refusal};
 use super::report::Report;
 use crate::commands::unlisted;
 use crate::panel::Panel;
 use crate::peer::Peer;
 use crate::stop::Stop;
 use std::collections::BTreeSet;
+use yuglasno::archive::names::{joined, refusal};
 use yuglasno::{Details, Shown};
 
 pub struct Job {

@@ -1,9 +1,9 @@
 //! What DETAILS says of a file: size, mtime and mode, as the panel said them.
+use crate::answer::Details;
 use std::fmt::{self, Display};
 use std::fs::Metadata;
 use std::os::unix::fs::MetadataExt;
 use std::str::FromStr;
-use yuglasno::Details;
 
 #[derive(Clone, Copy, PartialEq, Eq, Debug)]
 pub struct Numbers {

@@ -1,10 +1,11 @@
 //! Places of files in DIR. Below DIR no symbolic link is followed.
+use crate::shown::Shown;
 use std::ffi::OsStr;
-use std::fs::{self, Metadata};
+use std::fs::{self, File, Metadata};
 use std::io::{self, ErrorKind};
 use std::os::unix::ffi::OsStrExt;
+use std::os::unix::fs::MetadataExt;
 use std::path::{Path, PathBuf};
-use yuglasno::Shown;
 
 /// Where a name is in DIR.
 pub fn place(dir: &Path, name: &[u8]) -> PathBuf {
@@ -27,6 +28,20 @@ pub fn found(dir: &Path, name: &[u8]) -> io::Result<Option<Metadata>> {
         }
     }
     looked_at(&place(dir, name))
+}
+
+/// Opens the regular file that has this name in DIR. Anything else is not opened: a pipe would wait for its other end.
+pub fn opened(dir: &Path, name: &[u8]) -> io::Result<File> {
+    let found = found(dir, name)?.ok_or(ErrorKind::NotFound)?;
+    if !found.is_file() {
+        return Err(io::Error::new(ErrorKind::InvalidInput, "it is no regular file"));
+    }
+    let file = File::open(place(dir, name))?;
+    let opened = file.metadata()?;
+    if (opened.dev(), opened.ino()) != (found.dev(), found.ino()) {
+        return Err(io::Error::other("it was replaced meanwhile"));
+    }
+    Ok(file)
 }
 
 /// Makes the folders that a file is in.

@@ -1,0 +1,96 @@
+-- The claim on the panel's side: what is said for it is what a session reads. Assumes nothing.
+use Prim.Native.Nat.{ℕ, _≤_}
+use mathlib.Core.Bool.{and-eq-true-iff}
+use mathlib.Core.List.{List, [], _++_, append-nil}
+use mathlib.Core.Path.{_≡_, refl, sym, ap, ap₂, _∙_}
+use native.Mathlib.Omega.{arith}
+use lib.Dec.{leb}
+use lib.ListN.{length}
+use Rattle.protocol.specs.Answers.{Answer}
+use Rattle.protocol.specs.Calls.{Call}
+use Rattle.protocol.specs.Ids.{Table, Legal, under}
+use Rattle.protocol.specs.Reader.{Report, plainAnswers}
+use Rattle.protocol.proofs.Ids.{legal-sound}
+use Rattle.session.specs.Demand3.{Opening, Side, AllWide, CodedReport, Demand3, reader, logFrom}
+use Rattle.boundary.specs.Boundary.{boundary}
+use Rattle.boundary.proofs.Demand3.{demand-3}
+use Rattle.panel_reply.specs.Replies.{Reply, bytesOfReply, behindId, isShort}
+use Rattle.panel_side.specs.Crossing.{Spoken}
+use Rattle.panel_side.specs.Claim.{IsReadBack, PanelClaim}
+use Rattle.panel_side.specs.ReadBack.{Utterance, Says, says-none, says-next, sentAll, Dialogue, NoneRefused, Held}
+use Rattle.panel_side.proofs.Dialogues.{AllGood, bytesOfAll, plainLeft, dialogue-read, dialogue-left, log-left}
+use Rattle.panel_side.proofs.Calls.{has-calls}
+use Rattle.panel_side.proofs.Heard.{hears-by, hears, hears-lent, hears-stays}
+use Rattle.panel_side.proofs.Spoken.{is-taken, is-untaken, numbered-back, told-short, no-table, no-reply, speaks, unspoken, taken-zero, sent, stays, fits-given}
+
+-- ---- what was said
+
+sent-all : (t : Table) → Legal t → {us : List Utterance} {rs : List Reply} → Says t us rs → sentAll us ≡ bytesOfAll (under t) rs
+sent-all t legal says-none = refl
+sent-all t legal (says-next u r lends bytes narrow given zero-told more) =
+    ap₂ (λ (x y : List ℕ). x ++ y) (sent (u .settings) t legal lends (u .kind) (u .numbers) (u .lent) (u .out) (u .told) r given zero-told narrow) (sent-all t legal more)
+
+all-good : (t : Table) → Legal t → (c : ℕ) {us : List Utterance} {rs : List Reply} → Says t us rs → Held c rs → AllGood c rs
+all-good t legal c says-none h = tt
+all-good t legal c (says-next u r lends bytes narrow given zero-told more) h = (
+  record {
+    fits = fits-given (u .kind) (u .numbers) (u .lent) r bytes given;
+    short = and-eq-true-iff (isShort r) (leb (length (bytesOfReply (under t) r)) (length (u .out))) .0 (taken-zero (u .settings) t legal lends (u .kind) (u .numbers) (u .lent) (u .out) (u .told) r given zero-told) .0;
+    held = h .0;
+  },
+  all-good t legal c more (h .1),
+)
+
+-- ---- what is read
+
+module _ (o : Opening) (close : Report) (c : ℕ) (least : 8 ≤ c) (coded : CodedReport close) (us : List Utterance) (rs : List Reply) (says : Says (o .table) us rs)
+    (held : Held c rs) (qs : List Call) (answers : List Answer) (made : Dialogue qs rs answers) (free : NoneRefused (reader o c close .setting) qs)
+    (wide : AllWide qs) (a : Side boundary c close) (rest : List ℕ) (comes : a .incoming ≡ sentAll us ++ rest) where
+  third : Demand3 boundary o close qs c c a a
+  third = demand-3 o close qs c c least (omega arith) coded wide a a [] (sym (append-nil (a .incoming)))
+
+  came : a .incoming ≡ bytesOfAll (under (o .table)) rs ++ rest
+  came = comes ∙ ap (λ (l : List ℕ). l ++ rest) (sent-all (o .table) (o .legal) says)
+
+  good : AllGood c rs
+  good = all-good (o .table) (o .legal) c says held
+
+  is-read-back : IsReadBack o close qs c a answers rest
+  is-read-back =
+      record {
+        opens = third .opens-a;
+        reads =
+            third .answers-a
+            ∙ ap (plainAnswers (reader o c close) (a .host .end) qs) came
+            ∙ dialogue-read (reader o c close) (legal-sound (o .table) (o .legal)) least (a .host .end) rest made good free;
+        leaves =
+            log-left (reader o c close) (a .host .end) qs (a .incoming) (logFrom boundary o qs a) (third .reads-a) (third .ends-a)
+            ∙ ap (plainLeft (reader o c close) (a .host .end) qs) came
+            ∙ dialogue-left (reader o c close) (legal-sound (o .table) (o .legal)) least (a .host .end) rest made good free;
+      }
+
+pub panel-claim : PanelClaim
+unfolding behindId
+panel-claim =
+    record {
+      every-reply = numbered-back;
+      only-fitting = fits-given;
+      short-slice = told-short;
+      no-table = no-table;
+      no-reply = no-reply;
+      refuses = λ settings t legal lends k numbers lent out told h r given long. unspoken settings t legal lends k numbers lent out told r given h (is-untaken (under t) (length out) r long);
+      takes = λ settings t legal lends k numbers lent out told h r given fits.
+          let e = speaks settings t legal lends k numbers lent out told r given h (is-taken (under t) (length out) r fits) in
+          record { number = ap (λ (x : Spoken). x .number) e; said = ap (λ (x : Spoken). x .out) e; length-told = ap (λ (x : Spoken). x .told) e };
+      stays = λ settings k numbers lent out told. stays out told settings k numbers lent;
+      listing-zeros = λ d. refl;
+      listing2-zeros = λ d. refl;
+      end-zeros = λ d. refl;
+      okay-zeros = λ d. refl;
+      has-calls = has-calls;
+      reads-back = is-read-back;
+      hears-by = hears-by;
+      hears = hears;
+      hears-lent = hears-lent;
+      hears-stays = λ settings bytes out. hears-stays out settings bytes;
+    }

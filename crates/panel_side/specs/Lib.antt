@@ -1,0 +1,5 @@
+pub mod Crossing
+pub mod Crossings
+pub mod ReadBack
+pub mod Claim
+pub mod Facts

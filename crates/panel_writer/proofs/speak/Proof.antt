@@ -1,0 +1,66 @@
+-- `panel_writer::speak` meets its contract: each arm says the reply that was matched. Assumes nothing.
+use borrow.Author.Needs.{needs}
+use Rattle.panel_reply.specs.Replies.{behindId, isShort}
+use Rattle.panel_writer.proofs.Laws.{replied}
+use Rattle.panel_writer.proofs.speak.Statement.{statement}
+use Rattle.panel_writer.proofs.speak.Tie as tie
+
+pub speak-spec : {M : Type 1} → statement M
+unfolding behindId isShort
+speak-spec =
+    tie.close
+    (tie.spec
+    (λ c. search needs)
+    (λ c κs. search needs)
+    (λ c κs. search needs)
+    (λ c. search needs)
+    (λ c κs. search needs)
+    (λ c κs. search needs)
+    (λ c. search needs)
+    (λ c κs. search needs)
+    (λ c κs. search needs)
+    (λ c. search needs)
+    (λ c κs. search needs)
+    (λ c κs. search needs)
+    (λ c. search needs)
+    (λ c κs. search needs)
+    (λ c. search needs)
+    (λ c κs. search needs)
+    (λ c. search needs)
+    (λ c κs. search needs)
+    (λ c. search needs)
+    (λ c κs. search needs)
+    (λ c. search needs)
+    (λ c κs. search needs)
+    (λ c κs. search needs)
+    (λ c. search needs)
+    (λ c κs. search needs)
+    (λ c. search needs)
+    (λ c κs. search needs)
+    (λ c. search needs)
+    (λ c κs. search needs)
+    (λ c. search needs)
+    (λ c κs. search needs)
+    (λ c. search needs)
+    (λ c κs. search needs)
+    (λ c κs. search needs)
+    (λ c. search needs)
+    (λ c. replied _ _ _ _ (c .before .before .before .before .before .before .reply .given .1) (c .before .before .before .before .number .ensures) (c .before .before .say-stat .ensures))
+    (λ c. search needs)
+    (λ c. replied _ _ _ _ (c .before .before .before .before .before .before .reply2 .given .1) (c .before .before .before .before .number2 .ensures) (c .before .before .say-stat-v2 .ensures))
+    (λ c. search needs)
+    (λ c. replied _ _ _ _ (c .before .before .before .before .before .before .reply3 .given .1) (c .before .before .before .before .number3 .ensures) (c .before .before .say-entry .ensures))
+    (λ c. search needs)
+    (λ c. replied _ _ _ _ (c .before .before .before .before .before .before .reply4 .given .1) (c .before .before .before .before .number4 .ensures) (c .before .before .say-entry-v2 .ensures))
+    (λ c. search needs)
+    (λ c. replied _ _ _ _ (c .before .before .before .before .before .before .enum-told .given .1) (c .before .before .before .before .before .number5 .ensures) (c .before .before .say-entry2 .ensures))
+    (λ c. search needs)
+    (λ c. replied _ _ _ _ (c .before .before .before .before .before .before .enum-told2 .given .1) (c .before .before .before .before .before .number6 .ensures) (c .before .before .say-entry-v22 .ensures))
+    (λ c. search needs)
+    (λ c. replied _ _ _ _ (c .before .before .before .before .before .enum-told3 .given .1) (c .before .before .before .before .number7 .ensures) (c .before .before .say-chunk .ensures))
+    (λ c. search needs)
+    (λ c. replied _ _ _ _ (c .before .before .before .before .before .before .enum-told4 .given .1) (c .before .before .before .before .before .number8 .ensures) (c .before .before .say-counted .ensures))
+    (λ c. search needs)
+    (λ c. replied _ _ _ _ (c .before .before .before .before .before .before .enum-told5 .given .1) (c .before .before .before .before .before .number9 .ensures) (c .before .before .say-counted2 .ensures))
+    (λ c. search needs)
+    (λ c. replied _ _ _ _ (c .before .before .before .before .before .enum-told6 .given .1) (c .before .before .before .before .number10 .ensures) (c .before .before .say-counted3 .ensures)))
