@@ -2,25 +2,12 @@
  * nothing, ids from a file, the reply's layout by kind, what a read still wants, an index beside a session. Its last line is
  * 'N passed, M failed'. Also compiled as C++. */
 #include "yuglasno.h"
+#include "check.h"
 
-#include <stdio.h>
 #include <string.h>
 
 #define PATH "/a"
 #define ALL "features=stat_v2,ls_v2,sendrecv_v2"
-
-static int passed, failed;
-
-#define CHECK(what) check(what, #what, __LINE__)
-
-static void check(int held, const char *what, int line) {
-  if (held) {
-    passed++;
-  } else {
-    failed++;
-    printf("edges: line %d: not so: %s\n", line, what);
-  }
-}
 
 /* Every slice starts at an odd address. */
 enum { CAPACITY = 101, ODD = 1 };

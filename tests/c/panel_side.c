@@ -2,22 +2,9 @@
  * in which order, a reply that a session was told said again; requests of every kind, whole and cut off anywhere, and what is none. Each slice
  * that is written to has guards around it. Its last line is 'N passed, M failed'. Also compiled as C++. */
 #include "yuglasno.h"
+#include "check.h"
 
-#include <stdio.h>
 #include <string.h>
-
-static int passed, failed;
-
-#define CHECK(what) check(what, #what, __LINE__)
-
-static void check(int held, const char *what, int line) {
-  if (held) {
-    passed++;
-  } else {
-    failed++;
-    printf("panel_side: line %d: not so: %s\n", line, what);
-  }
-}
 
 enum { GUARD = 9, GUARD_BYTE = 0xc5, ROOM = YUGLASNO_DATA_MOST + 9 };
 static uint8_t settings[YUGLASNO_SETTINGS], data[YUGLASNO_DATA_MOST + 1], numbers[88];
