@@ -4,14 +4,13 @@
 -- Assumes nothing.
 use Prim.Native.Nat.{ℕ}
 use mathlib.Core.List.{List, [], _∷_, _++_}
-use lib.IntN.{pos}
 use lib.ListN.{replicate}
 use Rattle.protocol.specs.Answers as A
 use Rattle.protocol.specs.Answers.{Answer}
 use Rattle.protocol.specs.Bytes.{ascii}
 use Rattle.protocol.specs.Calls.{Call, call, nextEntry, nextChunk, v1, v2}
 use Rattle.protocol.specs.Messages as Q
-use Rattle.protocol.specs.Records.{Stat, Stat2}
+use Rattle.panel_reply.specs.Facts.{file, missing}
 use Rattle.panel_reply.specs.Replies.{Reply, stat, stat2, entry, entry2, listingEnd, chunk, transferEnd, okay, fail}
 use Rattle.panel_side.specs.ReadBack.{Utterance}
 use Rattle.claims.specs.Example.{dirty}
@@ -24,19 +23,12 @@ sevenBanner =
 abbrev word : ℕ → List ℕ
 word n = n ∷ replicate 7 0
 
-abbrev file : Stat
-file = record { mode = 33188; size = 1998; mtime = 5 }
-
 -- mode 33188, size 1998, mtime 5
 abbrev fileNumbers : List ℕ
 fileNumbers = 0xa4 ∷ 0x81 ∷ replicate 6 0 ++ 0xce ∷ 7 ∷ replicate 6 0 ++ word 5
 
 abbrev fileBytes : List ℕ
 fileBytes = 0xa4 ∷ 0x81 ∷ 0 ∷ 0 ∷ 0xce ∷ 7 ∷ 0 ∷ 0 ∷ 5 ∷ 0 ∷ 0 ∷ 0 ∷ []
-
--- nothing but an errno
-abbrev gone : Stat2
-gone = record { error = 2; dev = 0; ino = 0; mode = 0; nlink = 0; uid = 0; gid = 0; size = 0; atime = pos 0; mtime = pos 0; ctime = pos 0 }
 
 module _ (settings : List ℕ) where
   -- into a buffer of 80 bytes, the length into a slice of 112; both have bytes already
@@ -58,9 +50,9 @@ module _ (settings : List ℕ) where
 
 abbrev pub replies : List Reply
 replies =
-    stat file ∷ stat2 gone
+    stat file ∷ stat2 missing
     ∷ entry file (ascii "T98") ∷ listingEnd v1
-    ∷ entry2 gone (ascii "T98") ∷ listingEnd v2
+    ∷ entry2 missing (ascii "T98") ∷ listingEnd v2
     ∷ chunk (ascii "heights") ∷ transferEnd
     ∷ okay
     ∷ fail (ascii "no") ∷ fail (ascii "no") ∷ fail (ascii "no") ∷ fail (ascii "no") ∷ fail (ascii "no") ∷ fail (ascii "no")
@@ -102,7 +94,7 @@ abbrev pub heard : List Answer
 heard =
     A.stat file ∷ A.errno 2
     ∷ A.done ∷ A.entry file (ascii "T98") ∷ A.end
-    ∷ A.done ∷ A.entry2 gone (ascii "T98") ∷ A.end
+    ∷ A.done ∷ A.entry2 missing (ascii "T98") ∷ A.end
     ∷ A.done ∷ A.chunk (ascii "heights") ∷ A.end
     ∷ A.done ∷ A.done
     ∷ A.done ∷ A.done ∷ A.done

@@ -1,7 +1,7 @@
 -- Laws of `specs/Crossing.antt`: a request by its words, answers by the table in some settings, a reply by its kind and its numbers, and one
 -- that was said.
 -- Assumes nothing.
-use mathlib.Core.Bool.{Bool, true, false, _&&_, and-eq-true-iff}
+use mathlib.Core.Bool.{Bool, true, false, _&&_}
 use mathlib.Core.List.{List, [], _∷_}
 use mathlib.Core.Option.{none, some}
 use mathlib.Core.Path.{_≡_, refl, sym, ap, _∙_}
@@ -58,43 +58,6 @@ module _ (settings : List ℕ) {t u : Lent} (e : t ≡ lentIn settings) (g : t �
       → onTable (spoke out told) (λ d. ifGiven out told (saying d out told) (replyNumbered k n lent)) u ≡ crossSpeak settings k n lent out told
   unfolding crossSpeak
   speaks-by k n lent out told h = rw (le-ltb _ _ h) (by-table (spoke out told) (λ d. ifGiven out told (saying d out told) (replyNumbered k n lent)))
-
--- ---- the numbers of a stat
-
--- they are there, and those of 32 bits fit
-pub record Narrow (n : List ℕ) : Type 0 where
-  pub room : statRoom ≤ length n
-  pub mode : fits32 (at n 0) ≡ true
-  pub size : fits32 (at n 1) ≡ true
-  pub mtime : fits32 (at n 2) ≡ true
-
-pub record Narrow2 (n : List ℕ) : Type 0 where
-  pub room : stat2Room ≤ length n
-  pub error : fits32 (at n 0) ≡ true
-  pub mode : fits32 (at n 3) ≡ true
-  pub nlink : fits32 (at n 4) ≡ true
-  pub uid : fits32 (at n 5) ≡ true
-  pub gid : fits32 (at n 6) ≡ true
-
-halves : (a b : Bool) → a && b ≡ true → (a ≡ true) × (b ≡ true)
-halves a b h = and-eq-true-iff a b .0 h
-
-pub narrow : (n : List ℕ) → leb statRoom (length n) && statNarrow (statIn n) ≡ true → Narrow n
-narrow n h =
-    let three = halves (leb statRoom (length n)) (statNarrow (statIn n)) h in
-    let two = halves (fits32 (at n 0) && fits32 (at n 1)) (fits32 (at n 2)) (three .1) in
-    let one = halves (fits32 (at n 0)) (fits32 (at n 1)) (two .0) in
-    record { room = leb-true statRoom (length n) (three .0); mode = one .0; size = one .1; mtime = two .1 }
-
-pub narrow2 : (n : List ℕ) → leb stat2Room (length n) && stat2Narrow (stat2In n) ≡ true → Narrow2 n
-narrow2 n h =
-    let f : ℕ → Bool = λ i. fits32 (at n i) in
-    let five = halves (leb stat2Room (length n)) (stat2Narrow (stat2In n)) h in
-    let four = halves (f 0 && f 3 && f 4 && f 5) (f 6) (five .1) in
-    let three = halves (f 0 && f 3 && f 4) (f 5) (four .0) in
-    let two = halves (f 0 && f 3) (f 4) (three .0) in
-    let one = halves (f 0) (f 3) (two .0) in
-    record { room = leb-true stat2Room (length n) (five .0); error = one .0; mode = one .1; nlink = two .1; uid = three .1; gid = four .1 }
 
 -- ---- a reply by its kind
 

@@ -4,14 +4,14 @@
 use Prim.Native.Nat.{ℕ, _+_, _-_}
 use mathlib.Core.Bool.{Bool, true, false}
 use mathlib.Core.List.{List, [], _∷_, _++_, map}
-use lib.IntN.{pos, negsuc}
+use lib.IntN.{pos}
 use lib.ListN.{replicate}
 use Rattle.protocol.specs.Bytes.{ascii}
 use Rattle.protocol.specs.Calls.{v1, v2}
 use Rattle.protocol.specs.Fact.{Fact}
 use Rattle.protocol.specs.Ids.{Table, letters, under, published}
 use Rattle.protocol.specs.Records.{Stat, Stat2}
-use Rattle.protocol.specs.Replies.{counting, lowStat, lowStat2}
+use Rattle.protocol.specs.Replies.{counting, lowStat, lowStat2, highStat2}
 use Rattle.panel_reply.specs.Replies.{Reply, stat, stat2, entry, entry2, listingEnd, chunk, transferEnd, okay, fail, bytesOfReply, tooMany, isShort, spoken}
 
 abbrev row : {A : Type 0} → A → A → Fact A
@@ -21,31 +21,14 @@ abbrev says : Reply → List ℕ → Fact (List ℕ)
 says r b = row (bytesOfReply published r) b
 
 -- document 01's file: "mode 33188, size 1998, mtime 5"
-abbrev file : Stat
+abbrev pub file : Stat
 file = record { mode = 33188; size = 1998; mtime = 5 }
 
 abbrev fileFields : List ℕ
 fileFields = 0xa4 ∷ 0x81 ∷ 0 ∷ 0 ∷ 0xce ∷ 7 ∷ 0 ∷ 0 ∷ 5 ∷ 0 ∷ 0 ∷ 0 ∷ []
 
--- every byte high, each 255 less its offset; times before 1970
-abbrev highStat2 : Stat2
-highStat2 =
-    record {
-      error = 0xf8f9_fafb;
-      dev = 0xf0f1_f2f3_f4f5_f6f7;
-      ino = 0xe8e9_eaeb_eced_eeef;
-      mode = 0xe4e5_e6e7;
-      nlink = 0xe0e1_e2e3;
-      uid = 0xdcdd_dedf;
-      gid = 0xd8d9_dadb;
-      size = 0xd0d1_d2d3_d4d5_d6d7;
-      atime = negsuc 0x3736_3534_3332_3130;
-      mtime = negsuc 0x3f3e_3d3c_3b3a_3938;
-      ctime = negsuc 0x4746_4544_4342_4140;
-    }
-
 -- STA2-missing: nothing but an errno
-abbrev missing : Stat2
+abbrev pub missing : Stat2
 missing = record { error = 2; dev = 0; ino = 0; mode = 0; nlink = 0; uid = 0; gid = 0; size = 0; atime = pos 0; mtime = pos 0; ctime = pos 0 }
 
 -- ---- the bytes of each reply
@@ -60,7 +43,7 @@ replies =
     ∷ says (stat (record { mode = 0xffff_ffff; size = 0xffff_ffff; mtime = 0xffff_ffff })) (ascii "STAT" ++ replicate 12 255)
     -- "STA2, 72: error 4, dev 8 (u64), ino 16 (u64), mode 24, nlink 28, uid 32, gid 36, size 40 (u64), atime 48, mtime 56, ctime 64 (each i64)"
     ∷ says (stat2 (lowStat2 0x0706_0504)) (ascii "STA2" ++ counting 4 68)
-    ∷ says (stat2 highStat2) (ascii "STA2" ++ map (λ i. 255 - i) (counting 4 68))
+    ∷ says (stat2 (highStat2 0xf8f9_fafb)) (ascii "STA2" ++ map (λ i. 255 - i) (counting 4 68))
     ∷ says (stat2 missing) (ascii "STA2" ++ 2 ∷ replicate 67 0)
     -- "DENT, 20: .. namelen 16, then the name": document 01's listing; no name; any bytes
     ∷ says (entry file (ascii "T98")) (ascii "DENT" ++ fileFields ++ 3 ∷ 0 ∷ 0 ∷ 0 ∷ 0x54 ∷ 0x39 ∷ 0x38 ∷ [])

@@ -35,6 +35,7 @@ use Rattle.panel_reply.specs.Replies.{Reply, stat, stat2, entry, entry2, listin
 use Rattle.panel_side.specs.Crossing.{statIn, stat2In, statNarrow, stat2Narrow, numbersOfStat, numbersOfStat2, statRoom, stat2Room, withStat, withStat2, replyNumbered, sayKind, sayNumbers, Spoken, spoke, saying, ifGiven, onTable, longReply, misplaced, crossSpeak}
 use Rattle.panel_side.specs.Claim.{FitsStat, FitsStat2, Fits, TooLong, no-room, much-data, long-name, long-name2, long-text}
 use Rattle.panel_side.specs.ReadBack.{Lends}
+use Rattle.panel_side.proofs.Narrow.{narrow, narrow2}
 
 -- ---- what is taken, and what is too long
 
@@ -202,36 +203,26 @@ given-if : (test : Bool) (r z : Reply) → pick test (some z) none ≡ some r �
 given-if true r z e = (refl, Option·some-injective z r e)
 given-if false r z e = absurd (Option·none-ne-some r e)
 
--- both of two tests
-both : (a b : Bool) → a && b ≡ true → (a ≡ true) × (b ≡ true)
-both a b = and-eq-true-iff a b .0
-
 stat-fits : (n : List ℕ) (f : Stat → Reply) (r : Reply) → withStat n f ≡ some r → FitsStat (statIn n) × (f (statIn n) ≡ r)
 unfolding withStat
 stat-fits n f r e =
     let g = given-if (leb statRoom (length n) && statNarrow (statIn n)) r (f (statIn n)) e in
-    let a = both (leb statRoom (length n)) (statNarrow (statIn n)) (g .0) .1 in
-    let b = both (fits32 (at n 0) && fits32 (at n 1)) (fits32 (at n 2)) a in
-    let c = both (fits32 (at n 0)) (fits32 (at n 1)) (b .0) in
-    (record { mode = ltb-true _ _ (c .0); size = ltb-true _ _ (c .1); mtime = ltb-true _ _ (b .1) }, g .1)
+    let x = narrow n (g .0) in
+    (record { mode = ltb-true _ _ (x .mode); size = ltb-true _ _ (x .size); mtime = ltb-true _ _ (x .mtime) }, g .1)
 
 stat2-fits : (n : List ℕ) (f : Stat2 → Reply) (r : Reply) → Bytes n → withStat2 n f ≡ some r → FitsStat2 (stat2In n) × (f (stat2In n) ≡ r)
 unfolding withStat2
 stat2-fits n f r w e =
     let g = given-if (leb stat2Room (length n) && stat2Narrow (stat2In n)) r (f (stat2In n)) e in
-    let a = both (leb stat2Room (length n)) (stat2Narrow (stat2In n)) (g .0) .1 in
-    let b = both (fits32 (at n 0) && fits32 (at n 3) && fits32 (at n 4) && fits32 (at n 5)) (fits32 (at n 6)) a in
-    let c = both (fits32 (at n 0) && fits32 (at n 3) && fits32 (at n 4)) (fits32 (at n 5)) (b .0) in
-    let d = both (fits32 (at n 0) && fits32 (at n 3)) (fits32 (at n 4)) (c .0) in
-    let h = both (fits32 (at n 0)) (fits32 (at n 3)) (d .0) in (
+    let x = narrow2 n (g .0) in (
       record {
-        error = ltb-true _ _ (h .0);
+        error = ltb-true _ _ (x .error);
         dev = number-below 8 n 8 w;
         ino = number-below 8 n 16 w;
-        mode = ltb-true _ _ (h .1);
-        nlink = ltb-true _ _ (d .1);
-        uid = ltb-true _ _ (c .1);
-        gid = ltb-true _ _ (b .1);
+        mode = ltb-true _ _ (x .mode);
+        nlink = ltb-true _ _ (x .nlink);
+        uid = ltb-true _ _ (x .uid);
+        gid = ltb-true _ _ (x .gid);
         size = number-below 8 n 56 w;
         atime = signed-fits (at n 8) (number-below 8 n 64 w);
         mtime = signed-fits (at n 9) (number-below 8 n 72 w);

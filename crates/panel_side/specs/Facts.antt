@@ -10,15 +10,13 @@ use Rattle.protocol.specs.Answers.{Answer}
 use Rattle.protocol.specs.Bytes.{ascii}
 use Rattle.protocol.specs.Calls.{v1, v2}
 use Rattle.protocol.specs.Fact.{Fact}
-use Rattle.protocol.specs.Records.{Stat, Stat2}
+use Rattle.protocol.specs.Records.{Stat2}
+use Rattle.panel_reply.specs.Facts.{file}
 use Rattle.panel_reply.specs.Replies.{stat, stat2, entry, entry2, listingEnd, chunk, transferEnd, okay, fail}
 use Rattle.panel_side.specs.ReadBack.{readAs, capacityFor}
 
 abbrev row : {A : Type 0} → A → A → Fact A
 row c p = record { computed = c; paper = p }
-
-abbrev file : Stat
-file = record { mode = 33188; size = 1998; mtime = 5 }
 
 abbrev file2 : (error : ℕ) → Stat2
 file2 e = record { error = e; dev = 1; ino = 2; mode = 33188; nlink = 1; uid = 3; gid = 4; size = 1998; atime = pos 6; mtime = pos 5; ctime = pos 7 }

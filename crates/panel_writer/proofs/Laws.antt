@@ -1,5 +1,5 @@
 -- Laws of bytes put one behind the other, and of what is said. Assumes nothing.
-use mathlib.Core.Bool.{Bool, true, false, not, _&&_}
+use mathlib.Core.Bool.{Bool, true, false, not, _&&_, and-eq-true-iff}
 use mathlib.Core.List.{List, _++_}
 use mathlib.Core.Path.{_≡_, refl, sym, ap, _∙_}
 use Prim.Native.Nat.{ℕ, _+_, _≤_, _<_}
@@ -21,11 +21,6 @@ pub put-behind : {l l′ : List ℕ} (b : List ℕ) (at next : ℕ) (m n : List 
     → at + length m ≡ next → next + length n ≤ length b → l′ ≡ put b at (m ++ n)
 put-behind b at next m n p q e h = q ∙ ap (λ (l : List ℕ). put l next n) p ∙ put-put b at next m n e h
 
--- both of two tests hold
-both : (s t : Bool) → s && t ≡ true → (s ≡ true) × (t ≡ true)
-both true t e = (refl, e)
-both false t e = let z : _≡_ {A = ℕ} 0 1 = cc in absurd (omega arith)
-
 -- the two cases of `written`
 module _ (t : Bool) (m out : List ℕ) where
   pub written-out : t && leb (length m) (length out) ≡ false → (out, 0) ≡ written t m out
@@ -39,7 +34,7 @@ module _ (t : Bool) (m out : List ℕ) where
 -- the test of `has_room`: k bytes and what is lent behind them
 module _ (k : ℕ) (x out : List ℕ) {t : Bool} (test : t ≡ fits32 (length x) && leb (k + length x) (length out)) where
   held : not t ≡ false → (fits32 (length x) ≡ true) × (leb (k + length x) (length out) ≡ true)
-  held h = both (fits32 (length x)) (leb (k + length x) (length out)) (sym test ∙ not-false t h)
+  held h = and-eq-true-iff (fits32 (length x)) (leb (k + length x) (length out)) .0 (sym test ∙ not-false t h)
 
   pub room : not t ≡ false → (length x < 0x1_0000_0000) × (k + length x ≤ length out)
   room h = (ltb-true _ _ (held h .0), leb-true _ _ (held h .1))

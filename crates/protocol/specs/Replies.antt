@@ -86,7 +86,7 @@ lowStat2 e =
     }
 
 -- the times are negative: -1 - x, where x has the offsets for its bytes
-abbrev highStat2 : (error : ℕ) → Stat2
+abbrev pub highStat2 : (error : ℕ) → Stat2
 highStat2 e =
     record {
       error = e;

@@ -1,7 +1,7 @@
 -- `panel_crossing::stat_in` meets its contract: each number is there, and fits where its field has 32 bits. Assumes nothing.
 use denote.Ref.{now}
 use native.Mathlib.Omega.{arith}
-use Rattle.panel_crossing.proofs.Laws.{Narrow, narrow}
+use Rattle.panel_side.proofs.Narrow.{Narrow, narrow}
 use Rattle.panel_crossing.proofs.stat_in.Statement.{statement}
 use Rattle.panel_crossing.proofs.stat_in.Tie as tie
 

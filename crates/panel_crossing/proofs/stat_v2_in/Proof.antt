@@ -5,7 +5,7 @@ use native.Mathlib.Omega.{arith}
 use borrow.Author.Needs.{sfits-of}
 use mir.Facts.{toZ-ofZ}
 use mir.Syntax.{w64}
-use Rattle.panel_crossing.proofs.Laws.{Narrow2, narrow2}
+use Rattle.panel_side.proofs.Narrow.{Narrow2, narrow2}
 use Rattle.panel_crossing.proofs.stat_v2_in.Statement.{statement}
 use Rattle.panel_crossing.proofs.stat_v2_in.Tie as tie
 
