@@ -58,7 +58,8 @@
  *   yuglasno_speak   the reply at the front of out; in told the word YUGLASNO_SPOKEN_LENGTH
  *   yuglasno_heard   the words YUGLASNO_HEARD_..
  *
- * What of the record may be read: how many bytes a read still wants, by yuglasno_wanted(). All else in it is the library's own. */
+ * What of the record may be read, whenever none of the functions is at work on it: how many bytes a read still wants, by yuglasno_wanted(); the session's totals, by
+ * yuglasno_received(), yuglasno_consumed() and yuglasno_written(). All else in it is the library's own. */
 #ifndef YUGLASNO_H
 #define YUGLASNO_H
 
@@ -69,7 +70,7 @@
 extern "C" {
 #endif
 
-#define YUGLASNO_RECORD 256     /* bytes of a record */
+#define YUGLASNO_RECORD 288     /* bytes of a record */
 #define YUGLASNO_SETTINGS 128   /* bytes of settings */
 #define YUGLASNO_REPLY 112      /* bytes of a slice that takes any reply */
 #define YUGLASNO_DATA_MOST 65536 /* the most bytes in one DATA message */
@@ -121,8 +122,8 @@ enum {
   YUGLASNO_FAULT_ERROR = 1   /* another fault, with a code of the host's own */
 };
 
-/* The answers. 1 to 11, 18 to 20, 22 and 23 change nothing: record, settings, buffers, slots, area and a pending call are as before. Where
- * several apply, the first of 1, 2, then 3, 6, 4, 5, 8, 7, 9, 10 is answered; of a report 3, 6, 5, 11. Of a table of ids it is 22, then 23,
+/* The answers. 1 to 11 and 18 to 23 change nothing: record, settings, buffers, slots, area and a pending call are as before. Where
+ * several apply, the first of 1, 2, then 3, 6, 4, 5, 8, 7, 9, 10 is answered; of a report 3, 6, 5, 11, 21. Of a table of ids it is 22, then 23,
  * behind 1 to 3. Of an index it is 3, then 19. Of a reply it is 3 for told, then the settings' answer (3, 22, 23), then 3 for its kind and
  * numbers, then 20; of a request 3 for out, then the settings' answer, then 18. docs/ANSWERS.md says what to do. */
 enum {
@@ -149,6 +150,7 @@ enum {
   YUGLASNO_ANSWER_INDEX_FULL = 19,          /* slots or name bytes run out: no room for the entry */
   YUGLASNO_ANSWER_LONG_REPLY = 20,          /* of yuglasno_speak: out can't hold the reply, data is over YUGLASNO_DATA_MOST bytes, or a name or
                                                text has 2^32 or more */
+  YUGLASNO_ANSWER_OVERFLOW = 21,            /* a read or a write that would take a total past 2^64 - 1: it is not counted, and is still awaited */
   YUGLASNO_ANSWER_BAD_IDS = 22,             /* a file, or the settings of an opening, is no table of ids */
   YUGLASNO_ANSWER_EQUAL_IDS = 23            /* two ids of the table are equal */
 };
@@ -197,6 +199,14 @@ enum {
   YUGLASNO_AT_V2_ATIME = 11,
   YUGLASNO_AT_V2_MTIME = 12,
   YUGLASNO_AT_V2_CTIME = 13
+};
+
+/* Where a record has a session's totals, which are a host's to read and never to write: the words 32, 33 and 34, so from byte 256 on, eight
+ * bytes each. An opening makes them 0. A report that is refused, a fault and the close add nothing. */
+enum {
+  YUGLASNO_RECEIVED = 32, /* the counts of the reads that were accepted, summed */
+  YUGLASNO_CONSUMED = 33, /* of these bytes those that the session is done with, dropped ones too; the others are held in rx */
+  YUGLASNO_WRITTEN = 34   /* the lengths of the pieces that were accepted, summed */
 };
 
 /* Where a query of an index has its words. */
@@ -313,6 +323,11 @@ static inline uint64_t yuglasno_word(const uint8_t *bytes, size_t i) {
   for (size_t k = 8; k-- > 0;) word = word << 8 | bytes[8 * i + k];
   return word;
 }
+
+/* The totals of the session in a record, in bytes. */
+static inline uint64_t yuglasno_received(const uint8_t *rec) { return yuglasno_word(rec, YUGLASNO_RECEIVED); }
+static inline uint64_t yuglasno_consumed(const uint8_t *rec) { return yuglasno_word(rec, YUGLASNO_CONSUMED); }
+static inline uint64_t yuglasno_written(const uint8_t *rec) { return yuglasno_word(rec, YUGLASNO_WRITTEN); }
 
 /* How many bytes the read that is asked for still wants, at least 1: a host may gather reads up to it (and to the window's end) before
  * it reports. A hint: any count from one to the window may be reported. It is the record's word 9 less its word 3. */

@@ -3,7 +3,7 @@ platform tools 34.0.5 (Apache-2.0; bytes on the wire and what they mean, none of
 the reply's meaning, and whether the service went on.
 
 - What our host writes is written byte for byte as the client of the recording wrote it.
-- Every reply is read by the session as it is meant, whole and in reads of one byte.
+- Every reply is read by the session as it is meant, whole and in reads of one byte; its totals are the bytes that came and went.
 - Both hold of what our host writes with other ids put for the published ones, on both sides: in small letters, and in another order.
 - The request reader (the program `heard_requests`) judges every request as the service did, but for those that docs/DIFFERENCES.md names,
   and reads the mode of every push that it takes as the service did, as far as the file shows it that the service made.
@@ -57,25 +57,27 @@ def driven(session, link, calls):
 
 
 def replayed(library, exchange, cut):
-    """The link after the exchange's calls, what they answered, and what they should."""
-    link = host.Link(exchange.said, cut)
-    told, meant = list(driven(host.Session(library, BANNER, ids=exchange.ids), link, exchange.reading)), exchanges.answers(exchange.meaning)
+    """The session and the link after the exchange's calls, what they answered, and what they should."""
+    link, session = host.Link(exchange.said, cut), host.Session(library, BANNER, ids=exchange.ids)
+    told, meant = list(driven(session, link, exchange.reading)), exchanges.answers(exchange.meaning)
     # behind the last reply comes the channel's end
     while len(told) > len(meant) and told[-1] == CLOSED:
         told.pop()
-    return link, told, meant
+    return session, link, told, meant
 
 
 def read_as_meant(told, meant):
     return [('CHUNK', len(answer[1])) if answer[0] == 'CHUNK' else answer for answer in told] == meant
 
 
-def session(count, library, exchange, cut):
+def compared(count, library, exchange, cut):
     case = f'{exchange.label}, in reads of {cut}, ids {exchange.ids}'
-    link, told, meant = replayed(library, exchange, cut)
+    session, link, told, meant = replayed(library, exchange, cut)
     count.check(read_as_meant(told, meant), f'{case}: answered {told}, not {meant}')
     foreign = (exchanges.UNEXPECTED, exchanges.LST2) in told
     count.check(link.at == len(exchange.said) or foreign, f'{case}: {len(exchange.said) - link.at} bytes are left')
+    # a reply that does not belong there is left unread
+    count.check(session.counts(link, link.at - exchange.said.index(b'LST2') if foreign else 0), f'{case}: other totals')
     count.check(b''.join(answer[1] for answer in told if answer[0] == 'CHUNK') == exchange.data, f'{case}: other data')
     if exchange.calls:
         count.check(link.written == exchange.asked, f'{case}: written {link.written[:60]}, not {exchange.asked[:60]}')
@@ -87,7 +89,7 @@ def altered(count, library, exchange):
     for at in range(len(exchange.said)):
         other = copy.copy(exchange)
         other.said = exchange.said[:at] + bytes([exchange.said[at] ^ 1]) + exchange.said[at + 1:]
-        count.check(not read_as_meant(*replayed(library, other, 1)[1:]), f'{exchange.label}: byte {at} altered, and read alike')
+        count.check(not read_as_meant(*replayed(library, other, 1)[2:]), f'{exchange.label}: byte {at} altered, and read alike')
 
 
 # ---- the request reader
@@ -175,7 +177,7 @@ def main():
         for exchange in recorded:
             others = [exchanges.under(table, exchange) for table in (exchanges.SMALL, exchanges.ROTATED) if exchange.calls]
             for each, cut in itertools.product([exchange, *others], (host.LENGTHS['CAPACITY'], 1)):
-                session(count, library, each, cut)
+                compared(count, library, each, cut)
             files += reader(count, exchange, table)
             if exchange.label in ('STAT-file', 'STA2-file'):
                 altered(count, library, exchange)

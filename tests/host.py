@@ -12,6 +12,7 @@ LIBRARY = pathlib.Path(os.environ.get('YUGLASNO_LIB') or ROOT / 'target' / 'stat
 TABLES = in_header.tables({path: (ROOT / path).read_text() for path in in_header.SOURCES})
 CALL, WHAT, KIND, ANSWER, AT = (TABLES[name] for name in ('calls', 'what', 'kinds', 'answers', 'words'))
 LENGTHS = TABLES['lengths']
+TOTALS = [TABLES['record'][name] for name in ('RECEIVED', 'CONSUMED', 'WRITTEN')]
 STAT_WORDS = ('MODE', 'SIZE', 'MTIME')
 V2_WORDS = ('ERROR', 'DEV', 'INO', 'MODE', 'NLINK', 'UID', 'GID', 'SIZE', 'ATIME', 'MTIME', 'CTIME')
 
@@ -60,6 +61,11 @@ class Session:
 
     def word(self, i, signed=False):
         return int.from_bytes(self.out[8 * i:8 * i + 8], 'little', signed=signed)
+
+    def counts(self, link, unread=0):
+        """Whether the totals are what came over the link, all of it but the bytes that are unread, and what was written to it."""
+        totals = [int.from_bytes(self.rec[8 * i:8 * i + 8], 'little') for i in TOTALS]
+        return totals == [link.at, link.at - unread, len(link.written)]
 
     def step(self, name, lent, *numbers):
         """One crossing: what is asked, and an answer's number."""

@@ -222,6 +222,7 @@ def read_back(count, library, chosen):
                 answers = [session.call(link, call, b'/a' if call in ('STAT', 'STAT_V2') else b'') for _, call in made]
                 well = answers == [answer_to(reply) for reply, _ in made] and link.at == len(stream)
                 count.check(well, f'in reads of {cut}, ids {name}: answered {str(answers)[:300]} to {str(made)[:300]}')
+                count.check(session.counts(link), f'in reads of {cut}, ids {name}: other totals, of {str(made)[:300]}')
 
 
 def main():

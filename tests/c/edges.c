@@ -1,5 +1,5 @@
 /* What yuglasno.h says, tried: NULL with length 0, slices at odd addresses, the two forms of a returned number, refusals that change
- * nothing, ids from a file, the reply's layout by kind, what a read still wants, an index beside a session. Its last line is
+ * nothing, ids from a file, the reply's layout by kind, what a read still wants, the totals, an index beside a session. Its last line is
  * 'N passed, M failed'. Also compiled as C++. */
 #include "yuglasno.h"
 #include "check.h"
@@ -245,6 +245,98 @@ static void quitting(void) {
   CHECK(yuglasno_start(SESSION, NULL, 0, YUGLASNO_CALL_QUIT, 0, 0, REPLY) == YUGLASNO_ANSWER_ENDED << 8);
 }
 
+/* A record of any other length is none, and not a byte of what is lent changes. */
+static void other_records(void) {
+  const size_t lengths[] = {0, 192, 256, YUGLASNO_RECORD - 1, YUGLASNO_RECORD + 1};
+  open_session("");
+  CHECK(yuglasno_start(SESSION, NULL, 0, YUGLASNO_CALL_RECV_NEXT, 0, 0, REPLY) == YUGLASNO_WHAT_READ);
+  uint8_t as_it_was[YUGLASNO_REPLY];
+  memset(as_it_was, 0xee, YUGLASNO_REPLY);
+  memset(out, 0xee, YUGLASNO_REPLY);
+  for (size_t i = 0; i < sizeof lengths / sizeof *lengths; i++) {
+    size_t n = lengths[i];
+    REFUSED(OTHER_LENGTH, yuglasno_open(rec, n, settings, YUGLASNO_SETTINGS, NULL, 0, CAPACITY, CAPACITY) << 8);
+    REFUSED(OTHER_LENGTH, yuglasno_start(rec, n, rx, CAPACITY, msg, CAPACITY, NULL, 0, YUGLASNO_CALL_QUIT, 0, 0, REPLY));
+    REFUSED(OTHER_LENGTH, yuglasno_read(rec, n, rx, CAPACITY, msg, CAPACITY, NULL, 0, 1, REPLY));
+    REFUSED(OTHER_LENGTH, yuglasno_wrote(rec, n, rx, CAPACITY, msg, CAPACITY, NULL, 0, REPLY));
+    REFUSED(OTHER_LENGTH, yuglasno_fault(rec, n, rx, CAPACITY, msg, CAPACITY, NULL, 0, YUGLASNO_FAULT_CLOSED, 0, REPLY));
+    CHECK(memcmp(out, as_it_was, YUGLASNO_REPLY) == 0);
+  }
+}
+
+static int totals_are(uint64_t received, uint64_t consumed, uint64_t of_pieces) {
+  return yuglasno_received(rec) == received && yuglasno_consumed(rec) == consumed && yuglasno_written(rec) == of_pieces;
+}
+
+#define LENT (const uint8_t *)PATH, 2
+
+/* A stat, its reply in reads of 3 and 13, and a read of nothing between them. */
+static void totals(void) {
+  memset(rec, 0xee, YUGLASNO_RECORD);
+  open_session("");
+  CHECK(totals_are(0, 0, 0));
+  CHECK(yuglasno_what(yuglasno_start(SESSION, LENT, YUGLASNO_CALL_STAT, 0, 0, REPLY)) == YUGLASNO_WHAT_WRITE_RX && totals_are(0, 0, 0));
+  CHECK(yuglasno_wrote(SESSION, LENT, REPLY) == YUGLASNO_WHAT_READ && totals_are(0, 0, 10));
+  memcpy(rx + word(0), "STAT" STAT1, 16);
+  CHECK(yuglasno_read(SESSION, LENT, 3, REPLY) == YUGLASNO_WHAT_READ && totals_are(3, 0, 10));
+  REFUSED(COUNT, yuglasno_read(SESSION, LENT, 0, REPLY));
+  CHECK(totals_are(3, 0, 10));
+  CHECK(yuglasno_read(SESSION, LENT, 13, REPLY) == YUGLASNO_ANSWER_OK && totals_are(16, 16, 10));
+  REFUSED(NOT_AWAITED, yuglasno_read(SESSION, LENT, 13, REPLY));
+  CHECK(HEARD(YUGLASNO_CALL_QUIT, "", "", 1) == YUGLASNO_ANSWER_OK && totals_are(16, 16, 18));
+  REFUSED(ENDED, yuglasno_wrote(SESSION, NULL, 0, REPLY));
+  open_session("");
+  CHECK(yuglasno_start(SESSION, LENT, YUGLASNO_CALL_STAT, 0, 0, REPLY) == YUGLASNO_WHAT_WRITE_RX);
+  CHECK(yuglasno_fault(SESSION, LENT, YUGLASNO_FAULT_CLOSED, 0, REPLY) == YUGLASNO_ANSWER_CLOSED << 8 && totals_are(0, 0, 0));
+}
+
+/* A FAIL whose text of 20 bytes a buffer of 8 can't hold: what is dropped of it is consumed too. */
+static void totals_of_a_fail(void) {
+  static const char fail[] = "FAIL\24\0\0\0twenty bytes of text";
+  enum { SMALL = 8 };
+  size_t at = 0;
+  CHECK(OPEN(YUGLASNO_SETTINGS, SMALL, SMALL) == YUGLASNO_ANSWER_OK);
+  uint32_t told = yuglasno_start(rec, YUGLASNO_RECORD, rx, SMALL, msg, SMALL, NULL, 0, YUGLASNO_CALL_RECV_NEXT, 0, 0, REPLY);
+  while (yuglasno_what(told) == YUGLASNO_WHAT_READ && at < sizeof fail - 1) {
+    size_t count = least(sizeof fail - 1 - at, word(1));
+    memcpy(rx + word(0), fail + at, count);
+    at += count;
+    told = yuglasno_read(rec, YUGLASNO_RECORD, rx, SMALL, msg, SMALL, NULL, 0, count, REPLY);
+    CHECK(yuglasno_received(rec) == at);
+  }
+  CHECK(told == YUGLASNO_ANSWER_FAIL << 8 && part_is(msg, "twenty b") && totals_are(28, 28, 0));
+}
+
+/* As if the session had come so far that so many bytes more may be received, and written. */
+static void leave_room(uint64_t to_receive, uint64_t to_write) {
+  const uint64_t numbers[] = {UINT64_MAX - to_receive, UINT64_MAX - to_receive, UINT64_MAX - to_write};
+  for (size_t i = 0; i < 24; i++) rec[8 * YUGLASNO_RECEIVED + i] = (uint8_t)(numbers[i / 8] >> 8 * (i % 8));
+}
+
+/* A total may reach 2^64 - 1, and not pass it: 21, behind 3, 6, 5 and 11. */
+static void overflow(void) {
+  open_session("");
+  CHECK(yuglasno_start(SESSION, LENT, YUGLASNO_CALL_STAT, 0, 0, REPLY) == YUGLASNO_WHAT_WRITE_RX);
+  leave_room(15, 9);
+  REFUSED(OVERFLOW, yuglasno_wrote(SESSION, LENT, REPLY));
+  CHECK(word(YUGLASNO_AT_KIND) == YUGLASNO_KIND_OTHER && word(YUGLASNO_AT_START) == 0 && word(YUGLASNO_AT_LENGTH) == 0);
+  REFUSED(OTHER_LENGTH, yuglasno_wrote(SESSION, NULL, 0, REPLY));
+  leave_room(15, 10);
+  CHECK(yuglasno_wrote(SESSION, LENT, REPLY) == YUGLASNO_WHAT_READ && yuglasno_written(rec) == UINT64_MAX);
+  REFUSED(OVERFLOW, yuglasno_read(SESSION, LENT, 16, REPLY));
+  REFUSED(OTHER_LENGTH, yuglasno_read(SESSION, NULL, 0, 16, REPLY));
+  REFUSED(COUNT, yuglasno_read(SESSION, LENT, 0, REPLY));
+  REFUSED(COUNT, yuglasno_read(SESSION, LENT, CAPACITY + 1, REPLY));
+  REFUSED(NOT_AWAITED, yuglasno_wrote(SESSION, LENT, REPLY));
+  CHECK(yuglasno_read(SESSION, LENT, 15, REPLY) == YUGLASNO_WHAT_READ && yuglasno_received(rec) == UINT64_MAX);
+  CHECK(yuglasno_consumed(rec) == UINT64_MAX - 15);
+  REFUSED(OVERFLOW, yuglasno_read(SESSION, LENT, 1, REPLY));
+  CHECK(yuglasno_fault(SESSION, LENT, YUGLASNO_FAULT_CLOSED, 0, REPLY) == YUGLASNO_ANSWER_CLOSED << 8);
+  leave_room(0, 8);
+  CHECK(HEARD(YUGLASNO_CALL_QUIT, "", "", 1) == YUGLASNO_ANSWER_OK && yuglasno_written(rec) == UINT64_MAX);
+  REFUSED(ENDED, yuglasno_read(SESSION, NULL, 0, 1, REPLY));
+}
+
 /* An index, whose names have little room. */
 enum { AREA = 5 };
 static uint8_t slotted[YUGLASNO_SLOTS + ODD], named[AREA + 1 + ODD];
@@ -343,6 +435,10 @@ int main(void) {
     index_queries();
   }
   quitting();
+  other_records();
+  totals();
+  totals_of_a_fail();
+  overflow();
   printf("%d passed, %d failed\n", passed, failed);
   return failed != 0;
 }

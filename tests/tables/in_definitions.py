@@ -11,15 +11,16 @@ def specs(crate, names):
 TOLD, CROSSING, BOUNDARY, HEARD = specs('boundary', 'Told Crossing Boundary Heard')
 ANSWERS, REFUSAL, IDS, MESSAGES, FEATURES, FLAGS = specs('protocol', 'Answers Refusal Ids Messages Features Flags')
 OPENING, REPORTS, HOST = specs('session', 'Calls Reports Host')
-RECORD, FIELDS = specs('record', 'Record Fields')
+FIELDS, = specs('record', 'Fields')
 READER = 'crates/request_reader/specs/Meaning.antt'
 MISUSE, = specs('boundary_misuse', 'Misuse')
 IDS_FILE, SETTINGS = specs('id_table', 'IdsFile Settings')
 INDEX, SLOTS, INDEX_CROSSING, INDEX_CLAIM = specs('time_index', 'Index Slots Crossing Claim')
 PANEL, = specs('panel_side', 'Crossing')
+TOTALS, CARD = specs('totals', 'Crossing Card')
 EXPORTS = 'crates/exports/src/lib.rt'
-SOURCES = [TOLD, CROSSING, BOUNDARY, HEARD, ANSWERS, REFUSAL, IDS, MESSAGES, FEATURES, FLAGS, OPENING, REPORTS, HOST, RECORD, FIELDS, READER]
-SOURCES += [EXPORTS, MISUSE, IDS_FILE, SETTINGS, INDEX, SLOTS, INDEX_CROSSING, INDEX_CLAIM, PANEL]
+SOURCES = [TOLD, CROSSING, BOUNDARY, HEARD, ANSWERS, REFUSAL, IDS, MESSAGES, FEATURES, FLAGS, OPENING, REPORTS, HOST, FIELDS, READER]
+SOURCES += [EXPORTS, MISUSE, IDS_FILE, SETTINGS, INDEX, SLOTS, INDEX_CROSSING, INDEX_CLAIM, PANEL, TOTALS, CARD]
 
 # the definitions' words for the calls, and for some answers and kinds
 CALLED = {
@@ -55,6 +56,7 @@ REFUSALS = {
     'INDEX_FULL': (INDEX, r'indexFull = (\d+)'),
     'BAD_REQUEST': (READER, r'number R\.Refused = (\d+)'),
     'LONG_REPLY': (PANEL, r'longReply = (\d+)'),
+    'OVERFLOW': (TOTALS, r'overflowed = (\d+)'),
 }
 
 
@@ -158,27 +160,30 @@ def index_order(crossing, index):
     return [number[1] for number in numbers if number]
 
 
-def order(misuse, refusal, answers, ids_file, of_an_index):
+def order(misuse, refusal, answers, ids_file, of_an_index, overflowed):
     """The numbers in the order of their tests: of the opening, of a call (then of its number, its path, its flags, its features), of a
     report, of a table of ids, of an index."""
     def refused(text, start):
         return re.findall(r'\(refused (\d+)\)', section(text, start, '\n\n'))
-    opening = refused(misuse, 'openRefused rec settings rx msg =')[:2]
+    opening = refused(misuse, 'openRefused takes rec settings rx msg =')[:2]
     call, report = (re.findall(r'\(refused (\d+)\)', part) for part in section(misuse, 'refusedAt s e (start', '\n\n').split('refusedAt s e (report'))
     of_request = refused(misuse, 'numbered s none =') + refused(refusal, 'pathRefusal d p =') + refused(refusal, 'flagRefusal pull f =')
     tests = re.search(r'areValues vs\) \(pick \(twoEqual vs\) \(refused (\w+)\) \(ids vs\)\) \(refused (\w+)\)', ids_file)
     table = [re.search(rf'\n{name} = (\d+)', ids_file)[1] for name in reversed(tests.groups())] if tests else []
+    report += overflowed
     return placed(opening + call + of_request + re.findall(r'\nnumber \(missing \w+\) = (\d+)', answers), report, table, of_an_index)
 
 
 def tables(texts):
     listed = features(texts[FEATURES])
     told = texts[TOLD].replace('= 256 * answerNumber a', '= 0')
-    limits = {'RECORD': (RECORD, 'size'), 'REPLY': (TOLD, 'outSize'), 'DATA_MOST': (MESSAGES, 'dataMost'), 'PATH_MOST': (IDS, 'longest')}
+    limits = {'RECORD': (TOTALS, 'recordSize'), 'REPLY': (TOLD, 'outSize'), 'DATA_MOST': (MESSAGES, 'dataMost'), 'PATH_MOST': (IDS, 'longest')}
     limits |= {'SETTINGS': (SETTINGS, 'settingsSize'), 'SLOTS': (SLOTS, 'slotsSize')}
     limits |= {'INDEX_ENTRIES': (INDEX, 'mostEntries'), 'INDEX_NAMES': (INDEX, 'mostNames')}
     of_an_index = index_order(texts[INDEX_CROSSING], texts[INDEX])
-    return read(texts[HEARD]) | order(texts[MISUSE], texts[REFUSAL], texts[ANSWERS], texts[IDS_FILE], of_an_index) | {
+    behind = re.search(r'refusedBy s t e = orElse \(refusal s e\) \(refuse [^\n]* \(refused overflowed\)\)\n', texts[CARD])
+    overflowed = re.findall(REFUSALS['OVERFLOW'][1], texts[TOTALS]) if behind else []
+    return read(texts[HEARD]) | order(texts[MISUSE], texts[REFUSAL], texts[ANSWERS], texts[IDS_FILE], of_an_index, overflowed) | {
         'lengths': {name: int(m[1]) for name, (path, word) in limits.items() if (m := re.search(rf'{word} = (\d+)', texts[path]))},
         'calls': calls(texts[BOUNDARY]),
         'calls, at the start': numbered(texts[CROSSING]),
@@ -191,7 +196,7 @@ def tables(texts):
         'faults': found(r'endKind z \(?(?P<name>\w+)[^=\n]*= (?P<number>\d+)', texts[BOUNDARY]),
         'features': listed,
         'flags': flags(texts[REFUSAL], texts[FLAGS], listed),
-        'record': found(r'(?P<number>\d+) (?P<name>tail|until)\b', section(texts[FIELDS], '--  0 capacity', '--\n')),
+        'record': record(texts[FIELDS], texts[TOTALS]),
         'words of a span': span(texts[INDEX_CLAIM]),
         'words of an item': item(texts[INDEX_CLAIM]),
         'kinds of a reply': said(texts[PANEL]),
@@ -199,6 +204,12 @@ def tables(texts):
         'words of a request': request(texts[PANEL]),
         'functions': dict(functions(texts[EXPORTS])),
     }
+
+
+def record(fields, totals):
+    """The record's numbers that a host may read: those of a session, and its totals."""
+    made = found(r'(?P<number>\d+) (?P<name>tail|until)\b', section(fields, '--  0 capacity', '--\n'))
+    return made | found(r'\b(?P<name>received|consumed|written)At = (?P<number>\d+)', totals)
 
 
 def span(claim):

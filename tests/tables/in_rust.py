@@ -73,7 +73,7 @@ def tables(texts):
         'faults': found(r'Report::(?P<name>Closed|Error)(?:\(code\))? => raw::fault\(rec, rx, msg, lent, (?P<number>\d+),', texts[SESSION]),
         'features': found(r'(?P<name>\w+) = (?P<number>\d+),', section(texts[FEATURE], 'pub enum Feature', '\n}\n')),
         'flags': found(r'pub const (?P<name>\w+): Self = Self\((?P<number>\w+)\);', texts[NUMBERS]),
-        'record': wanted(texts[RAW]),
+        'record': wanted(texts[RAW]) | found(r'(?P<name>received|consumed|written): number\(rec, (?P<number>\d+)\)', texts[RAW]),
         'words of a span': span(texts[INDEX]),
         'words of an item': item(texts[INDEX]),
         'kinds of a reply': found(SAID, section(texts[SPEAK], 'fn put(&self', '\n    }\n')),

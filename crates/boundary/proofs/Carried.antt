@@ -1,4 +1,4 @@
--- The exported functions on a stored session are the core's steps on the session, and so the log of every list of calls is the core's.
+-- The crossings on a stored session are the core's steps on the session, and so the log of every list of calls is the core's.
 -- Assumes nothing.
 use Prim.Native.Nat.{ℕ, suc, _+_, _-_, _≤_, _<_}
 use mathlib.Core.Bool.{Bool, true, false, true≢false, _&&_, and-eq-true-iff}
@@ -30,7 +30,7 @@ use Rattle.session.specs.Core.{faultOf, showOf, begin, core}
 use Rattle.session.specs.Host.{Spare, Step, lentOf}
 use Rattle.session.specs.Reports.{refusalAt, readIn, readAt, reportRead, reportWrote, reportFault}
 use Rattle.session.specs.State.{St, st, Out, at}
-use Rattle.boundary.specs.Boundary.{callNumber, firstNumber, flagNumber, endKind, endCode, stepOf, exported}
+use Rattle.boundary.specs.Boundary.{callNumber, firstNumber, flagNumber, endKind, endCode, stepOf, recorded}
 use Rattle.boundary.specs.Crossing.{Crossed, crossed, isRefusal, back, crossing, requestNumbered, callNumbered, unknownCall, crossStart, staysAt, stays, backRead, crossRead, crossWrote, faultNumbered, crossFault}
 use Rattle.boundary.specs.Told.{replyNumber, replyBytes, outSize}
 use Rattle.boundary.proofs.Heard.{heard-told}
@@ -127,19 +127,19 @@ module _ (s : St) where
       tailed : Reply → Crossed
       tailed r = crossed (put (stored (s .ses)) 24 (bytesOf 8 t)) (s .rx) (s .msg) (put out 0 (replyBytes r)) 1
 
--- ---- the exported functions
+-- ---- the crossings
 
 module _ (s : St) (x : Inv s) where
   abbrev rec : List ℕ
   rec = stored (s .ses)
 
-  pub holds-same : exported .holds rec (s .rx) ≡ core .holds (s .ses) (s .rx)
+  pub holds-same : recorded .holds rec (s .rx) ≡ core .holds (s .ses) (s .rx)
   unfolding stored fields
   holds-same =
       let w = word-words (fields (s .ses)) (fields-wide (s .ses) (narrow-of s x)) in
       rw (w 2, w 3)
 
-  pub tail-same : exported .tail rec ≡ core .tail (s .ses)
+  pub tail-same : recorded .tail rec ≡ core .tail (s .ses)
   unfolding stored fields
   tail-same = word-words (fields (s .ses)) (fields-wide (s .ses) (narrow-of s x)) 3
 
@@ -148,21 +148,21 @@ module _ (s : St) (x : Inv s) where
     brings : (k : St → Crossed) (o : Out) → k s ≡ back rec (z .out) o → Fine (s .ses) o → stepOf (crossing rec (s .rx) (s .msg) (z .out) k) ≡ image o
     brings k o e f = ap stepOf (loads s (narrow-of s x) (z .out) room k ∙ e) ∙ back-image s (z .out) room o f
 
-    pub start-image : (q : Call) → Fine (s .ses) (begin s q (lentOf z q)) → exported .start rec (s .rx) (s .msg) q z ≡ image (begin s q (lentOf z q))
+    pub start-image : (q : Call) → Fine (s .ses) (begin s q (lentOf z q)) → recorded .start rec (s .rx) (s .msg) q z ≡ image (begin s q (lentOf z q))
     unfolding crossStart
     start-image q f = brings _ (begin s q (lentOf z q)) (ap (back rec (z .out)) (called s z q)) f
 
-    pub wrote-image : (lent : List ℕ) → Fine (s .ses) (reportWrote s lent) → exported .onWrote rec (s .rx) (s .msg) lent z ≡ image (reportWrote s lent)
+    pub wrote-image : (lent : List ℕ) → Fine (s .ses) (reportWrote s lent) → recorded .onWrote rec (s .rx) (s .msg) lent z ≡ image (reportWrote s lent)
     unfolding crossWrote
     wrote-image lent f = brings _ (reportWrote s lent) refl f
 
     pub fault-image : (lent : List ℕ) (e : End) → Fine (s .ses) (reportFault s (length lent) (faultOf e))
-        → exported .onFault rec (s .rx) (s .msg) lent e z ≡ image (reportFault s (length lent) (faultOf e))
+        → recorded .onFault rec (s .rx) (s .msg) lent e z ≡ image (reportFault s (length lent) (faultOf e))
     unfolding crossFault
     fault-image lent e f =
         brings _ (reportFault s (length lent) (faultOf e)) (ap (λ (g : Fault). back rec (z .out) (reportFault s (length lent) g)) (faulted z e)) f
 
     pub read-image : (lent : List ℕ) (k : ℕ) → Fine (s .ses) (reportRead s (length lent) k)
-        → exported .onRead rec (s .rx) (s .msg) lent k z ≡ image (reportRead s (length lent) k)
+        → recorded .onRead rec (s .rx) (s .msg) lent k z ≡ image (reportRead s (length lent) k)
     unfolding crossRead
     read-image lent k f = brings _ (reportRead s (length lent) k) (read-back s (z .out) (length lent) k) f

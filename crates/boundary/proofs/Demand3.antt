@@ -1,4 +1,4 @@
--- Demand 3 of the exported functions. Opened on any record of the right length, their log is the log of the core's steps from a fresh
+-- Demand 3 of the session in its record. Opened on any record of the right length, its log is the log of the core's steps from a fresh
 -- session, which is the plain reader's: against a host that accepts every write, and against any other.
 -- Assumes nothing.
 use Prim.Native.Nat.{ℕ, _≤_, _<_, _^_}
@@ -16,13 +16,13 @@ use Rattle.id_table.specs.Settings.{settingsOf}
 use Rattle.id_table.proofs.Laws.{id-tables}
 use Rattle.record.specs.Record.{stored, size}
 use Rattle.record.specs.Narrow.{NarrowIds}
-use Rattle.session.specs.Demand3.{Opening, AllWide, reader, Claim}
+use Rattle.session.specs.Demand3.{Opening, AllWide, reader, unbounded, Claim}
 use Rattle.session.specs.EveryHost.{CodedHost, EveryHost}
 use Rattle.session.specs.Faithful.{Faithful}
 use Rattle.session.specs.Host.{World, Host, atStart, logOf}
 use Rattle.session.specs.State.{St}
 use Rattle.session.proofs.Demand3.{claimed, begins, opens, begins-good, begins-empty, begins-faithful}
-use Rattle.boundary.specs.Boundary.{exported, boundary}
+use Rattle.boundary.specs.Boundary.{recorded, boundary}
 use Rattle.boundary.specs.Crossing.{crossOpen}
 use Rattle.boundary.proofs.Logs.{log-same}
 use Rattle.boundary.proofs.Steps.{Inv}
@@ -66,16 +66,16 @@ module _ (opening : Opening) (rec rx msg : List ℕ) (placed : length rec ≡ si
   opened = rw (opens opening rx msg least room, eq-eqb (length rec) size placed, id-tables .opens (opening .table) (opening .legal))
 
   -- the log from there is the core's
-  exported-faithful : (h : Host) → CodedHost h → ((w : World) → boundary .lends (h .spare w)) → (qs : List Call) → AllWide qs → (incoming : List ℕ) → Bytes incoming
+  recorded-faithful : (h : Host) → CodedHost h → ((w : World) → boundary .lends (h .spare w)) → (qs : List Call) → AllWide qs → (incoming : List ℕ) → Bytes incoming
       → (crossOpen rec (settingsOf (opening .table)) (opening .banner) (length rx) (length msg) .number ≡ 0)
       × Faithful (reader opening (length rx) (h .close)) (h .end) qs incoming
-      (logOf exported h qs (atStart incoming) (crossOpen rec (settingsOf (opening .table)) (opening .banner) (length rx) (length msg) .rec) rx msg)
-  exported-faithful h z lends qs v incoming b =
+      (logOf recorded h qs (atStart incoming) (crossOpen rec (settingsOf (opening .table)) (opening .banner) (length rx) (length msg) .rec) rx msg)
+  recorded-faithful h z lends qs v incoming b =
       rw opened (refl, rw (log-same h z lends qs (atStart incoming) start inv-start b v) (begins-faithful opening rx msg least room h qs incoming))
 
 -- Any host, also one whose reads, writes and close come to faults: each call of the log is the plain reader's.
-pub every-host : EveryHost boundary
-every-host opening rec rx msg placed least room wide = exported-faithful opening rec rx msg placed least room wide
+pub every-host : EveryHost unbounded boundary
+every-host opening rec rx msg placed least room wide h z lends qs v incoming b within = recorded-faithful opening rec rx msg placed least room wide h z lends qs v incoming b
 
-pub demand-3 : Claim boundary
-demand-3 = claimed boundary every-host
+pub demand-3 : Claim unbounded boundary
+demand-3 = claimed unbounded boundary every-host

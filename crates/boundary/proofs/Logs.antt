@@ -1,4 +1,4 @@
--- The log of every list of calls, made against any host through the exported functions, is the core's: step by step the exported run goes
+-- The log of every list of calls, made against any host through the crossings, is the core's: step by step their run goes
 -- on where the core's run does, on the session stored.
 -- Assumes nothing.
 use Prim.Native.Nat.{ℕ, zero, suc, _+_, _-_, _≤_, _<_}
@@ -35,7 +35,7 @@ use Rattle.session.specs.State.{St, st, Out, at}
 use Rattle.session.proofs.Buf.{sound-of, good-at, held-came}
 use Rattle.session.proofs.Run.{length-filling}
 use Rattle.session.proofs.Turns.{held}
-use Rattle.boundary.specs.Boundary.{exported, boundary}
+use Rattle.boundary.specs.Boundary.{recorded, boundary}
 use Rattle.boundary.proofs.Carried.{image, holds-same, tail-same, start-image, wrote-image, fault-image, read-image}
 use Rattle.boundary.proofs.Reports.{NarrowFault, start-fine, entry-fine, chunk-fine, read-fine, wrote-fine, fault-fine}
 use Rattle.boundary.proofs.Steps.{Inv, Fine}
@@ -110,7 +110,7 @@ module _ (s : St) (x : Inv s) (i : ℕ) (at-tail : i ≡ s .ses .buf .tail) (v j
 
 -- ---- runs
 
--- the exported run e is the core's run, the session stored; and what that run leaves may go on
+-- the recorded run e is the core's run, the session stored; and what that run leaves may go on
 abbrev Same : Run (List ℕ) → Run Session → Type 0
 Same e (over-with x rx msg a w) = (e ≡ over-with (stored x) rx msg a w) × (Inv (st x rx msg) × Bytes (w .left))
 Same e unended = e ≡ unended
@@ -128,14 +128,14 @@ module _ (h : Host) (z : CodedHost h) (lends : (w : World) → boundary .lends (
       (w : World) (b : Bytes (w .left)) where
     -- a report
     wrote-same : (v w′ : World) (t : St) → Inv t → Bytes (w′ .left)
-        → Same (k w′ (exported .onWrote (stored (t .ses)) (t .rx) (t .msg) lent (h .spare v)))
+        → Same (k w′ (recorded .onWrote (stored (t .ses)) (t .rx) (t .msg) lent (h .spare v)))
         (k′ w′ (core .onWrote (t .ses) (t .rx) (t .msg) lent (h .spare v)))
     wrote-same v w′ t x y =
         let f : Fine (t .ses) (reportWrote t lent) = wrote-fine t x lent in
         rw (wrote-image t x (h .spare v) (lends v .0) lent f) (on (t .ses) w′ (reportWrote t lent) f y)
 
     fault-same : (v w′ : World) (t : St) (e : End) → Coded e → Inv t → Bytes (w′ .left)
-        → Same (k w′ (exported .onFault (stored (t .ses)) (t .rx) (t .msg) lent e (h .spare v)))
+        → Same (k w′ (recorded .onFault (stored (t .ses)) (t .rx) (t .msg) lent e (h .spare v)))
         (k′ w′ (core .onFault (t .ses) (t .rx) (t .msg) lent e (h .spare v)))
     fault-same v w′ t e c x y =
         let f : Fine (t .ses) (reportFault t (length lent) (faultOf e)) = fault-fine t x (faultOf e) (coded-narrow e c) (length lent) in
@@ -143,12 +143,12 @@ module _ (h : Host) (z : CodedHost h) (lends : (w : World) → boundary .lends (
 
     module _ (t : St) (x : Inv t) (r : Reply) where
       write-same : (w′ : World) → Bytes (w′ .left) → (p : List ℕ) (o : Report) → CodedReport o
-          → Same (grantWrite exported h lent k w′ (image (replying t r)) p o) (grantWrite core h lent k′ w′ (C.stepOf (replying t r)) p o)
+          → Same (grantWrite recorded h lent k w′ (image (replying t r)) p o) (grantWrite core h lent k′ w′ (C.stepOf (replying t r)) p o)
       write-same w′ y p accepted c = wrote-same w′ _ t x y
       write-same w′ y p (broke e) c = fault-same w′ _ t e c x y
 
       close-same : (o : Report) → CodedReport o
-          → Same (grantClose exported h lent k w (image (replying t r)) o) (grantClose core h lent k′ w (C.stepOf (replying t r)) o)
+          → Same (grantClose recorded h lent k w (image (replying t r)) o) (grantClose core h lent k′ w (C.stepOf (replying t r)) o)
       close-same accepted c = wrote-same w _ t x b
       close-same (broke e) c = fault-same w _ t e c x b
 
@@ -158,7 +158,7 @@ module _ (h : Host) (z : CodedHost h) (lends : (w : World) → boundary .lends (
 
         -- the read comes to the fault d
         fails-same : (w′ : World) (d : End) → Coded d → Bytes (w′ .left)
-            → Same (k w′ (exported .onFault (stored (t .ses)) (windowed (h .junk (w .reads)) (t .rx) i len []) (t .msg) lent d (h .spare w)))
+            → Same (k w′ (recorded .onFault (stored (t .ses)) (windowed (h .junk (w .reads)) (t .rx) i len []) (t .msg) lent d (h .spare w)))
             (k′ w′ (core .onFault (t .ses) (windowed (h .junk (w .reads)) (t .rx) i len []) (t .msg) lent d (h .spare w)))
         fails-same w′ d c y =
             let f : ℕ → ℕ = h .junk (w .reads) in
@@ -166,7 +166,7 @@ module _ (h : Host) (z : CodedHost h) (lends : (w : World) → boundary .lends (
             fault-same w w′ (laid t x i at-tail [] (filling f (len - 0)) (omega arith)) d c (inv-laid t x i at-tail [] (filling f (len - 0)) (omega arith)) y
 
         read-same : (ls : List ℕ) (fails : Option End) → CodedFault fails → w .left ≡ ls
-            → Same (grantRead exported h lent k w (image (replying t r)) i len ls fails) (grantRead core h lent k′ w (C.stepOf (replying t r)) i len ls fails)
+            → Same (grantRead recorded h lent k w (image (replying t r)) i len ls fails) (grantRead core h lent k′ w (C.stepOf (replying t r)) i len ls fails)
         read-same [] fails y e = rw (holds-same t x) (fails-same (hasRead 0 (asking 0) w) (h .end) (z .end) b)
         read-same (c ∷ ls) (some d) y e = rw (holds-same t x) (fails-same (hasStopped d (hasRead 0 (asking 0) w)) d y b)
         read-same (c ∷ ls) none coded e =
@@ -185,7 +185,7 @@ module _ (h : Host) (z : CodedHost h) (lends : (w : World) → boundary .lends (
 
     -- one step of both runs
     granted-same : (s₀ : Session) (t : St) (r : Reply) → Fine s₀ (replying t r)
-        → Same (granted exported h lent k w (image (replying t r)) (showOf (t .rx) (t .msg) r))
+        → Same (granted recorded h lent k w (image (replying t r)) (showOf (t .rx) (t .msg) r))
         (granted core h lent k′ w (C.stepOf (replying t r)) (showOf (t .rx) (t .msg) r))
     granted-same s₀ t (R.Told a) f = (refl, (f .inv, b))
     granted-same s₀ t (R.Read i len) f =
@@ -200,11 +200,11 @@ module _ (h : Host) (z : CodedHost h) (lends : (w : World) → boundary .lends (
     granted-same s₀ t R.Close f = close-same t (f .inv) R.Close (h .close) (z .close)
 
   run-same : (n : ℕ) (s₀ : Session) (w : World) (o : Out) → Fine s₀ o → Bytes (w .left)
-      → Same (run exported h lent n w (image o)) (run core h lent n w (C.stepOf o))
+      → Same (run recorded h lent n w (image o)) (run core h lent n w (C.stepOf o))
   unfolding run
   run-same zero s₀ w o f b = refl
   run-same (suc n) s₀ w o f b =
-      granted-same (λ w′ s′. run exported h lent n w′ s′) (λ w′ s′. run core h lent n w′ s′) (run-same n) w b s₀ (o .st) (o .reply) f
+      granted-same (λ w′ s′. run recorded h lent n w′ s′) (λ w′ s′. run core h lent n w′ s′) (run-same n) w b s₀ (o .st) (o .reply) f
 
 -- ---- logs
 
@@ -212,12 +212,12 @@ module _ (h : Host) (z : CodedHost h) (lends : (w : World) → boundary .lends (
   -- an entry, and what follows
   entry-same : (u : List ℕ) (z : ℕ) (m : List ℕ) (k : World → List ℕ → List ℕ → List ℕ → List Entry) (k′ : World → Session → List ℕ → List ℕ → List Entry)
       → ((w : World) (s : St) → Inv s → Bytes (w .left) → k w (stored (s .ses)) (s .rx) (s .msg) ≡ k′ w (s .ses) (s .rx) (s .msg))
-      → (e : Run (List ℕ)) (r : Run Session) → Same e r → onRun exported u z m k e ≡ onRun core u z m k′ r
-  entry-same u z m k k′ on e (over-with x rx msg a w) (p, (i, b)) = ap (onRun exported u z m k) p ∙ rw (holds-same (st x rx msg) i, tail-same (st x rx msg) i, on w (st x rx msg) i b)
-  entry-same u z m k k′ on e unended p = ap (onRun exported u z m k) p
+      → (e : Run (List ℕ)) (r : Run Session) → Same e r → onRun recorded u z m k e ≡ onRun core u z m k′ r
+  entry-same u z m k k′ on e (over-with x rx msg a w) (p, (i, b)) = ap (onRun recorded u z m k) p ∙ rw (holds-same (st x rx msg) i, tail-same (st x rx msg) i, on w (st x rx msg) i b)
+  entry-same u z m k k′ on e unended p = ap (onRun recorded u z m k) p
 
   pub log-same : (qs : List Call) (w : World) (s : St) → Inv s → Bytes (w .left) → AllWide qs
-      → logOf exported h qs w (stored (s .ses)) (s .rx) (s .msg) ≡ logOf core h qs w (s .ses) (s .rx) (s .msg)
+      → logOf recorded h qs w (stored (s .ses)) (s .rx) (s .msg) ≡ logOf core h qs w (s .ses) (s .rx) (s .msg)
   unfolding logOf
   log-same [] w s x b v = refl
   log-same (q ∷ qs) w s x b v =
@@ -226,5 +226,5 @@ module _ (h : Host) (z : CodedHost h) (lends : (w : World) → boundary .lends (
       let f : Fine (s .ses) (begin s q (lentOf sp q)) = begin-fine s x q (v .0) (lentOf sp q) l in
       rw (holds-same s x, tail-same s x)
       (entry-same (held s) (s .ses .buf .tail) (s .msg) _ _ (λ w′ s′ x′ b′. log-same qs w′ s′ x′ b′ (v .1))
-      (runCall exported h q w (stored (s .ses)) (s .rx) (s .msg)) (runCall core h q w (s .ses) (s .rx) (s .msg))
+      (runCall recorded h q w (stored (s .ses)) (s .rx) (s .msg)) (runCall core h q w (s .ses) (s .rx) (s .msg))
       (rw (start-image s x sp (lends w .0) q f) (run-same h z lends (lentOf sp q) l (enough q w) (s .ses) (newCall w) (begin s q (lentOf sp q)) f b)))

@@ -1,6 +1,6 @@
 -- The calls and the reports keep the widths: those that are let in (`..-goes`), and all (`..-fine`); a refusal leaves the session as it was.
 -- Assumes nothing.
-use Prim.Native.Nat.{ℕ, zero, suc, _+_, _-_, _≤_}
+use Prim.Native.Nat.{ℕ, zero, suc, _+_, _-_, _≤_, _<_}
 use mathlib.Core.Bool.{Bool, true, false, true≢false, _&&_, _||_, not}
 use mathlib.Core.List.{List}
 use mathlib.Core.Option.{Option, none, some}
@@ -86,7 +86,7 @@ report-lent s x m n = go (misfit s x m) (isIdle (s .pending)) (s .ended) (eqb n 
 -- 8, 7, 9 and 10
 pub data NarrowRefusal : Option P.Answer → Type 0 where
   lets : NarrowRefusal none
-  by-number : {n : ℕ} → Plain n → NarrowRefusal (some (P.refused n))
+  by-number : {n : ℕ} → (0 < n) × Plain n → NarrowRefusal (some (P.refused n))
   by-feature : {n : ℕ} → U64 n → NarrowRefusal (some (P.missing n))
 
 pub or-narrow : {a b : Option P.Answer} → NarrowRefusal a → NarrowRefusal b → NarrowRefusal (orElse a b)
@@ -150,7 +150,7 @@ inv-begun s n x h = record { good = omega (arith, x .good); wide = x .wide; lent
 
 or-fine : {r : Option P.Answer} (s : St) (o : Out) → NarrowRefusal r → Inv s → Fine (s .ses) o → Fine (s .ses) (orRefuse r s o)
 or-fine s o lets x f = f
-or-fine s o (by-number {n = n} h) x f = refused-fine s (A.Refused n) x h
+or-fine s o (by-number {n = n} h) x f = refused-fine s (A.Refused n) x (h .1)
 or-fine s o (by-feature {n = n} h) x f = refused-fine s (A.Missing n) x h
 
 module _ (s : St) (x : Inv s) where

@@ -1,4 +1,4 @@
--- The exported functions as a system: what demand 3 is claimed of.
+-- The session in its record as a system: what demand 3 is claimed of first, and then with totals (totals/specs/System).
 -- Assumes nothing.
 use Prim.Native.Nat.{ℕ, suc, _≤_, _<_, _^_}
 use mathlib.Core.List.{List}
@@ -70,8 +70,8 @@ endCode z (error c) = c
 abbrev pub stepOf : Crossed → Step (List ℕ)
 stepOf c = record { x = c .rec; rx = c .rx; msg = c .msg; show = heard (c .number) (c .out) (c .rx) (c .msg) }
 
-abbrev pub exported : Engine (List ℕ)
-exported =
+abbrev pub recorded : Engine (List ℕ)
+recorded =
     record {
       start = λ rec rx msg q z. stepOf (crossStart rec rx msg (lentOf z q) (callNumber q) (firstNumber z q) (flagNumber z q) (z .out));
       onRead = λ rec rx msg lent k z. stepOf (crossRead rec rx msg lent k (z .out));
@@ -89,7 +89,7 @@ openedBy o = record { number = o .number; x = o .rec }
 abbrev pub boundary : System (List ℕ)
 boundary =
     record {
-      engine = exported;
+      engine = recorded;
       opened = λ rec o rx msg. openedBy (crossOpen rec (settingsOf (o .table)) (o .banner) (length rx) (length msg));
       place = λ rec. length rec ≡ size;
       lends = λ z. (outSize ≤ length (z .out)) × (length (z .lent) < 2 ^ 64);

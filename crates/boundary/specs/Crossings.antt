@@ -185,4 +185,4 @@ heardFacts =
     ∷ tells 15 (eights (7 ∷ 0 ∷ 0 ∷ []) ++ ascii "OKAY" ++ replicate 4 0) (P.unexpected (ascii "OKAY"))
     ∷ tells 16 (eights (7 ∷ 0 ∷ 0 ∷ 5 ∷ [])) (P.errno 5)
     ∷ tells 17 (eights (7 ∷ 0 ∷ 0 ∷ [])) P.tooLarge
-    ∷ map (λ n. tells n (eights (7 ∷ 0 ∷ 0 ∷ [])) (P.refused n)) (1 ∷ 2 ∷ 3 ∷ 4 ∷ 5 ∷ 6 ∷ 7 ∷ 8 ∷ 9 ∷ 11 ∷ [])
+    ∷ map (λ n. tells n (eights (7 ∷ 0 ∷ 0 ∷ [])) (P.refused n)) (1 ∷ 2 ∷ 3 ∷ 4 ∷ 5 ∷ 6 ∷ 7 ∷ 8 ∷ 9 ∷ 11 ∷ 21 ∷ [])

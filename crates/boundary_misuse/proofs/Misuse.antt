@@ -1,9 +1,9 @@
--- The claim: from the opening on, event after event, the exported functions refuse by the table and by nothing else.
+-- The session in its record: from the opening on, event after event, its steps refuse by the table and by nothing else.
 -- Assumes nothing.
 use Prim.Native.Nat.{ℕ, _≤_, _<_, _^_}
 use mathlib.Core.Bool.{Bool, true, false, not, _&&_}
-use mathlib.Core.List.{List, [], _∷_, map}
-use mathlib.Core.Option.{Option, some}
+use mathlib.Core.List.{List, map}
+use mathlib.Core.Option.{Option, none, some}
 use mathlib.Core.Path.{_≡_, refl, sym, ap, _∙_, subst}
 use native.Mathlib.Omega.{arith}
 use borrow.Author.Tests.{le-ltb, ltb-false}
@@ -13,7 +13,7 @@ use Rattle.protocol.specs.Answers as P
 use Rattle.protocol.specs.Answers.{Answer, refused}
 use Rattle.protocol.specs.Bytes.{Bytes, pick}
 use Rattle.protocol.specs.Calls.{v1, v2, Call, call, nextEntry, nextChunk}
-use Rattle.protocol.specs.Refusal.{orElse, refuse}
+use Rattle.protocol.specs.Refusal.{refuse}
 use Rattle.protocol.specs.Features.{featuresOf}
 use Rattle.protocol.specs.Ids.{all}
 use Rattle.protocol.specs.Messages.{stat, sta2, list, lis2, recv, ask, rcv2, send, snd2, chunk, done, quit}
@@ -37,18 +37,18 @@ use Rattle.session.specs.State.{St, st, Out}
 use Rattle.session.proofs.Demand3.{features-listed}
 use Rattle.session.proofs.Turns.{Frame, frameOf}
 use Rattle.boundary.specs.Boundary.{callNumber, firstNumber, flagNumber, stepOf}
-use Rattle.boundary.specs.Crossing.{Crossed, turnedAway, back, OpenCrossed, openedWith, crossOpen, crossStart, crossRead, crossWrote, crossFault}
+use Rattle.boundary.specs.Crossing.{Crossed, turnedAway, isRefusal, back, OpenCrossed, openedWith, crossOpen, requestNumbered, callNumbered, unknownCall, crossStart, crossRead, crossWrote, crossFault}
 use Rattle.boundary.specs.Heard.{answerHeard, heard}
 use Rattle.boundary.specs.Told.{replyNumber, outSize}
 use Rattle.boundary.proofs.Carried.{image, loads, back-image, read-back}
 use Rattle.boundary.proofs.Demand3.{ids-narrow}
 use Rattle.boundary.proofs.Heard.{heard-told}
 use Rattle.boundary.proofs.Reports.{NarrowRefusal, lets, by-number, by-feature}
-use Rattle.boundary.proofs.Steps.{Asked, idle, fine}
-use Rattle.boundary_misuse.specs.Misuse.{HostReport, hasRead, wrote, fault, Act, start, report, Event, WideAct, AllWide, crossedBy, Seen, opened, pending, tableRefused, openRefused, misfits, callOf, numbered, refusal}
-use Rattle.boundary_misuse.specs.Claim.{heardOf, Answers, seenAfter, follow, Every, Opens, MisuseClaim}
+use Rattle.boundary.proofs.Steps.{Inv, Asked, idle, fine}
+use Rattle.boundary_misuse.specs.Misuse.{HostReport, hasRead, wrote, fault, Act, start, report, Event, WideAct, Wide, crossedBy, Seen, opened, pending, misfits, callOf, numbered, refusal}
+use Rattle.boundary_misuse.specs.Claim.{heardOf, Answers, seenAfter, follow}
 use Rattle.boundary_misuse.proofs.Known.{Own, own-of, misfit-own, seenOf, Knows, knows, pending-is}
-use Rattle.boundary_misuse.proofs.Unchanged.{not-refused, event-kept}
+use Rattle.boundary_misuse.proofs.Unchanged.{not-refused}
 use Rattle.boundary_misuse.proofs.Table.{Comes, numbered-narrow, behind, behind-narrow, begins, calls, after, misplaced, later, later-narrow, reported, reports}
 
 -- ---- one event
@@ -56,6 +56,10 @@ use Rattle.boundary_misuse.proofs.Table.{Comes, numbered-narrow, behind
 -- what is claimed of it, and that what is seen afterwards is what the session then is
 abbrev Holds : Seen → List ℕ → Event → Option Answer → Crossed → Type 0
 Holds v rec e r c = Answers r rec e c × Knows (follow r v e (heardOf c)) (c .rec)
+
+abbrev pub IsSome : Option Answer → Type 0
+IsSome none = ⊥
+IsSome (some a) = Unit {0}
 
 module _ (s : Session) (sh : Show) (own : Own s) (asked : Asked s sh) (lent rx msg out : List ℕ) where
   abbrev v : Seen
@@ -103,7 +107,7 @@ module _ (s : Session) (sh : Show) (own : Own s) (asked : Asked s sh) (lent rx m
           )
       comes-holds r (by-number {n = n} h) g =
           subst (λ (y : Out). Holds v (stored s) (ev x) r (back (stored s) out y)) (sym g)
-          ((refl, heard-told out room 0 0 (omega arith) (omega arith) rx msg (R.Told (A.Refused n)) h, (refl, refl, refl)), knows s sh own asked)
+          ((refl, heard-told out room 0 0 (omega arith) (omega arith) rx msg (R.Told (A.Refused n)) (h .1), (refl, refl, refl)), knows s sh own asked)
       comes-holds r (by-feature {n = n} h) g =
           subst (λ (y : Out). Holds v (stored s) (ev x) r (back (stored s) out y)) (sym g)
           ((refl, heard-told out room 0 0 (omega arith) (omega arith) rx msg (R.Told (A.Missing n)) h, (refl, refl, refl)), knows s sh own asked)
@@ -141,6 +145,34 @@ module _ (s : Session) (sh : Show) (own : Own s) (asked : Asked s sh) (lent rx m
         holds (report r) (after s sh) _ (λ y. refl) _ _ (report-crosses r) (report-table r)
         (later-narrow s lent rx msg sh r) (reports s lent rx msg (own .narrow) short few bytes sh asked r w)
 
+    -- what is put back; a step that is let in keeps the session's numbers, and is no refusal
+    abbrev pub outOf : Act → Out
+    outOf (start n a b) = callNumbered n a b here lent (requestNumbered n a b) (unknownCall here)
+    outOf (report r) = reported s lent rx msg r
+
+    pub crosses : (x : Act) → crossedBy (stored s) (ev x) ≡ back (stored s) out (outOf x)
+    unfolding crossStart
+    crosses (start n a b) = loads here (own .narrow) out room _
+    crosses (report r) = report-crosses r
+
+    pub let-in : (x : Act) → WideAct x → refusal v (ev x) ≡ none → Inv (outOf x .st) × (isRefusal (outOf x .reply) ≡ false)
+    let-in (start n a b) (p, q) z =
+        let g : Comes none (begins s lent rx msg) here (outOf (start n a b)) =
+        subst (λ (r : Option Answer). Comes r (begins s lent rx msg) here (outOf (start n a b))) (sym (call-table n a b) ∙ z) (calls s lent rx msg (own .narrow) short few bytes sh a b p q n) in
+        (g .inv, g .given)
+    let-in (report r) w z =
+        let g : Comes none (after s sh) here (outOf (report r)) =
+        subst (λ (y : Option Answer). Comes y (after s sh) here (outOf (report r))) (sym (report-table r) ∙ z) (reports s lent rx msg (own .narrow) short few bytes sh asked r w) in
+        (g .inv, g .given)
+
+  -- a step that is let in has room for its reply
+  pub room-of : (x : Act) → refusal v (ev x) ≡ none → outSize ≤ length out
+  room-of x z = go (ltb (length out) outSize) refl
+    where
+      go : (b : Bool) → ltb (length out) outSize ≡ b → outSize ≤ length out
+      go true e = absurd (subst IsSome (sym (three e x) ∙ z) tt)
+      go false e = ltb-false _ _ e
+
   any-holds : (x : Act) → WideAct x → U64 (length lent) → length msg < 2 ^ 63 → Bytes rx → Holds v (stored s) (ev x) (refusal v (ev x)) (crossedBy (stored s) (ev x))
   any-holds x w short few bytes = go (ltb (length out) outSize) refl
     where
@@ -148,13 +180,11 @@ module _ (s : Session) (sh : Show) (own : Own s) (asked : Asked s sh) (lent rx m
       go true e = short-holds e x
       go false e = event-holds (ltb-false _ _ e) short few bytes x w
 
--- ---- every list of them
-
-every : (v : Seen) (rec : List ℕ) (es : List Event) → Knows v rec → AllWide es → Every v rec es
-every v rec [] k w = tt
-every v rec (e ∷ es) (knows s sh own asked) (w, ws) =
-    let (a, k) = any-holds s sh own asked (e .lent) (e .rx) (e .msg) (e .out) (e .act) (w .act) (omega (arith, w .lent)) (w .msg) (w .rx) in
-    (a, every _ _ es k ws)
+-- one event, of what is known
+pub known-step : (v : Seen) (rec : List ℕ) (e : Event) → Knows v rec → Wide e
+    → Answers (refusal v e) rec e (crossedBy rec e) × Knows (follow (refusal v e) v e (heardOf (crossedBy rec e))) (crossedBy rec e .rec)
+known-step v rec e (knows s sh own asked) w =
+    any-holds s sh own asked (e .lent) (e .rx) (e .msg) (e .out) (e .act) (w .act) (omega (arith, w .lent)) (w .msg) (w .rx)
 
 -- ---- from the opening on
 
@@ -163,7 +193,7 @@ numberOf : Lent → ℕ
 numberOf (L.Ids t) = 1
 numberOf (L.Refused n) = n
 
-lent-some : (s : List ℕ) (n : ℕ) → lentIn s ≡ L.Refused n → n ≡ 0 → ⊥
+pub lent-some : (s : List ℕ) (n : ℕ) → lentIn s ≡ L.Refused n → n ≡ 0 → ⊥
 unfolding lentIn checked numberOf
 lent-some s n e z = go (eqb (length s) settingsSize) (eqb (length vs) count && areValues vs) (twoEqual vs) e
   where
@@ -176,22 +206,10 @@ lent-some s n e z = go (eqb (length s) settingsSize) (eqb (length vs) count && a
     go true false d f = absurd (omega (arith, ap numberOf f))
     go false b d f = absurd (omega (arith, ap numberOf f))
 
-abbrev opens : (rec banner : List ℕ) (c m : ℕ) (a b d : Bool) → Lent → OpenCrossed
+abbrev pub opens : (rec banner : List ℕ) (c m : ℕ) (a b d : Bool) → Lent → OpenCrossed
 opens rec banner c m a b d t =
     pick (ltb 0 (pick a 1 (pick b 2 0))) (record { rec = rec; number = pick a 1 (pick b 2 0) })
     (pick d (openedWith rec (featuresFrom (featuresOf banner)) c m t) (record { rec = rec; number = 3 }))
-
-open-answers : (rec settings banner : List ℕ) (c m : ℕ) → Opens (openRefused rec settings c m) rec (crossOpen rec settings banner c m)
-unfolding crossOpen openRefusal
-open-answers rec settings banner c m = go (ltb c 8) (ltb m c) (eqb (length rec) size) (lentIn settings)
-  where
-    go : (a b d : Bool) (t : Lent)
-        → Opens (orElse (refuse a (refused 1)) (orElse (refuse b (refused 2)) (orElse (refuse (not d) (refused 3)) (tableRefused t)))) rec (opens rec banner c m a b d t)
-    go true b d t = (refl, refl)
-    go false true d t = (refl, refl)
-    go false false false t = (refl, refl)
-    go false false true (L.Ids t) = refl
-    go false false true (L.Refused n) = (refl, refl)
 
 module _ (rec settings banner : List ℕ) (c m : ℕ) (wide : m < 2 ^ 63) where
   abbrev new : Ids → Session
@@ -208,7 +226,7 @@ module _ (rec settings banner : List ℕ) (c m : ℕ) (wide : m < 2 ^ 63) where
   lent-narrow : (t : Ids) → lentIn settings ≡ L.Ids t → NarrowIds t
   lent-narrow t e = let x = id-tables .lends settings t e in subst NarrowIds (sym (x .table)) (ids-narrow (tableIn settings) (x .legal))
 
-  opened-known : crossOpen rec settings banner c m .number ≡ 0 → Knows (opened banner c m) (crossOpen rec settings banner c m .rec)
+  pub opened-known : crossOpen rec settings banner c m .number ≡ 0 → Knows (opened banner c m) (crossOpen rec settings banner c m .rec)
   unfolding crossOpen openRefusal
   opened-known = go (ltb c 8) (ltb m c) (eqb (length rec) size) (lentIn settings) refl refl refl
     where
@@ -222,9 +240,9 @@ module _ (rec settings banner : List ℕ) (c m : ℕ) (wide : m < 2 ^ 63) where
           subst (λ (fs : List Bool). Knows (record { capacity = c; message = m; features = fs; lent = 0; last = told P.done; ended = false }) (stored (new t)))
           (features-listed banner) (knows (new t) (told P.done) (own-new t (lent-narrow t e) (ltb-false _ _ p) (ltb-false _ _ q)) idle)
 
--- ---- the claim
+-- ---- the numbers of the calls
 
-call-numbers : (z : Spare) (q : Call) → callOf (callNumber q) (firstNumber z q) (flagNumber z q) (lentOf z q) ≡ some q
+pub call-numbers : (z : Spare) (q : Call) → callOf (callNumber q) (firstNumber z q) (flagNumber z q) (lentOf z q) ≡ some q
 call-numbers z (call (ask stat p)) = refl
 call-numbers z (call (ask sta2 p)) = refl
 call-numbers z (call (ask list p)) = refl
@@ -239,12 +257,3 @@ call-numbers z (call quit) = refl
 call-numbers z (nextEntry v1) = refl
 call-numbers z (nextEntry v2) = refl
 call-numbers z nextChunk = refl
-
-pub misuse : MisuseClaim
-misuse =
-    record {
-      calls = call-numbers;
-      opens = open-answers;
-      unchanged = λ rec b e w. event-kept rec b e w (e .act) (w .act);
-      every = λ rec settings banner c m wide z es w. every (opened banner c m) (crossOpen rec settings banner c m .rec) es (opened-known rec settings banner c m wide z) w;
-    }

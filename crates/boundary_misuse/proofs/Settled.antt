@@ -29,7 +29,7 @@ use Rattle.boundary.specs.Crossing.{Crossed, isRefusal, back, onLoaded, crossin
 use Rattle.boundary.specs.Told.{outSize}
 use Rattle.boundary.proofs.Reports.{NarrowRefusal, lets, by-number, by-feature}
 use Rattle.boundary.proofs.Steps.{narrow-of}
-use Rattle.boundary_misuse.specs.Misuse.{HostReport, hasRead, wrote, fault, Act, start, report, Event, WideAct, Wide, acted, callOf}
+use Rattle.boundary_misuse.specs.Misuse.{HostReport, hasRead, wrote, fault, Act, start, report, Event, WideAct, Wide, acted, crossedBy, callOf}
 use Rattle.boundary_misuse.specs.Settled.{places, settled, SettledClaim}
 use Rattle.boundary_misuse.proofs.Loaded.{Widths, loaded-narrow}
 use Rattle.boundary_misuse.proofs.Table.{Comes, numbered-narrow, behind-narrow, calls, later-narrow, reported, reports}
@@ -157,5 +157,5 @@ module _ (rec : List ℕ) (bytes : Bytes rec) where
     event-kept (report wrote) x = crossing-kept _ (λ s m l i. report-kept wrote x s m i)
     event-kept (report (fault kind code)) x = crossing-kept _ (λ s m l i. report-kept (fault kind code) x s m i)
 
-pub settled-stays : SettledClaim
+pub settled-stays : SettledClaim crossedBy
 settled-stays rec bytes e w = event-kept rec bytes e w (e .act) (w .act)

@@ -38,7 +38,7 @@ use Rattle.session.proofs.Turns.{Frame, frameOf}
 use Rattle.boundary.specs.Crossing.{requestNumbered, callNumbered, unknownCall, faultNumbered}
 use Rattle.boundary.proofs.Reports.{NarrowRefusal, lets, by-number, or-narrow, refuse-narrow, request-narrow, NarrowFault, start-goes, entry-goes, chunk-goes, read-in-refused, read-in-goes, closed-goes, write-fault-goes, read-fault-goes, close-fault-goes}
 use Rattle.boundary.proofs.Steps.{Inv, Goes, Awaits, idle, reads, writes-rx, writes-lent, writes-bytes, closes, Asked, wrote-on-goes}
-use Rattle.boundary_misuse.specs.Misuse.{HostReport, hasRead, wrote, fault, report, WideAct, Seen, pending, closing, callOf, numbered, awaited, outside}
+use Rattle.boundary_misuse.specs.Misuse.{HostReport, hasRead, wrote, fault, Act, start, report, Event, WideAct, Seen, pending, closing, misfits, otherLent, callOf, numbered, awaited, outside, refusedAt}
 use Rattle.boundary_misuse.proofs.Known.{inv-of, bytes-held, seenOf}
 
 -- ---- what a step comes to
@@ -94,6 +94,17 @@ numbered-narrow v none = by-number {n = 5} (omega arith)
 numbered-narrow v (some (call q)) = request-narrow _ q
 numbered-narrow v (some (nextEntry x)) = lets
 numbered-narrow v (some nextChunk) = lets
+
+-- every refusal of the table has one of the numbers 1 to 11
+pub table-narrow : (v : Seen) (e : Event) (x : Act) → NarrowRefusal (refusedAt v e x)
+table-narrow v e (start n a b) =
+    or-narrow (refuse-narrow (misfits v e) (by-number {n = 3} (omega arith)))
+    (or-narrow (refuse-narrow (v .ended) (by-number {n = 6} (omega arith)))
+    (or-narrow (refuse-narrow (pending (v .last)) (by-number {n = 4} (omega arith))) (numbered-narrow v (callOf n a b (e .lent)))))
+table-narrow v e (report r) =
+    or-narrow (refuse-narrow (misfits v e || otherLent v e) (by-number {n = 3} (omega arith)))
+    (or-narrow (refuse-narrow (v .ended) (by-number {n = 6} (omega arith)))
+    (or-narrow (refuse-narrow (not (awaited (v .last) r)) (by-number {n = 5} (omega arith))) (refuse-narrow (outside (v .last) r) (by-number {n = 11} (omega arith)))))
 
 -- ---- the reports' answers
 

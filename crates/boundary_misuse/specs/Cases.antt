@@ -10,6 +10,7 @@ use Rattle.protocol.specs.Answers as A
 use Rattle.protocol.specs.Answers.{Answer, refused, missing}
 use Rattle.protocol.specs.Bytes.{ascii}
 use Rattle.protocol.specs.Fact.{Fact}
+use Rattle.record.specs.Record.{size}
 use Rattle.session.specs.Host.{Show, told, read, writeRx, writeLent, writeBytes, close}
 use Rattle.boundary_misuse.specs.Misuse.{Act, start, report, HostReport, hasRead, wrote, fault, Event, Seen, openRefused, refusal}
 use Rattle.boundary_misuse.specs.Claim.{seenAfter}
@@ -123,7 +124,7 @@ reported =
     ++ map (λ s. fits s false (report (fault 0 0)) none) asks
     ++ map (λ s. fits s false (report (fault 1 7)) none) asks
 
--- "1 receive buffer under 8; 2 message buffer shorter than the receive buffer"; a record of another length than 256; settings of another
+-- "1 receive buffer under 8; 2 message buffer shorter than the receive buffer"; a record of another length than the session takes; settings of another
 -- length than 128, without a table, with two equal ids
 abbrev room : List ℕ
 room = replicate 68 0
@@ -138,7 +139,7 @@ abbrev twice : List ℕ
 twice = ascii "statsta2listlis2sendsnd2recvrcv2datadoneokayfaildentdnt2stat" ++ room
 
 abbrev lends : (record-length : ℕ) → (settings : List ℕ) → (rx msg : ℕ) → Option Answer → Fact (Option Answer)
-lends n s rx msg p = record { computed = openRefused (replicate n 0) s rx msg; paper = p }
+lends n s rx msg p = record { computed = openRefused size (replicate n 0) s rx msg; paper = p }
 
 abbrev opens : (record-length rx msg : ℕ) → Option Answer → Fact (Option Answer)
 opens n rx msg p = lends n small rx msg p

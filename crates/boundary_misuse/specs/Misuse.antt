@@ -18,7 +18,6 @@ use Rattle.protocol.specs.Messages.{stat, sta2, list, lis2, recv, ask, rcv2, se
 use Rattle.id_table.specs.Settings.{lentIn}
 use Rattle.id_table.specs.declared.Lent.{Lent}
 use Rattle.id_table.specs.declared.Lent.the-variants as L
-use Rattle.record.specs.Record.{size}
 use Rattle.session.specs.Host.{Show, told, read, writeRx, writeLent, writeBytes, close}
 use Rattle.boundary.specs.Crossing.{Crossed, crossStart, crossRead, crossWrote, crossFault}
 use Rattle.boundary.specs.Told.{outSize}
@@ -55,6 +54,7 @@ pub record Wide (e : Event) : Type 0 where
   pub act : WideAct (e .act)
   pub lent : length (e .lent) < 2 ^ 63
   pub msg : length (e .msg) < 2 ^ 63
+  pub out : length (e .out) < 2 ^ 63
   pub rx : Bytes (e .rx)
 
 abbrev pub AllWide : List Event → Type 0
@@ -127,11 +127,12 @@ abbrev pub tableRefused : Lent → Option Answer
 tableRefused (L.Ids t) = none
 tableRefused (L.Refused n) = some (refused n)
 
--- 1 receive buffer under 8; 2 message buffer shorter than the receive buffer; 3 a record of another length; then the settings
-abbrev pub openRefused : (rec settings : List ℕ) → (rx msg : ℕ) → Option Answer
-openRefused rec settings rx msg =
+-- 1 receive buffer under 8; 2 message buffer shorter than the receive buffer; 3 a record of another length than a session takes; then the
+-- settings
+abbrev pub openRefused : (takes : ℕ) → (rec settings : List ℕ) → (rx msg : ℕ) → Option Answer
+openRefused takes rec settings rx msg =
     orElse (refuse (ltb rx 8) (refused 1))
-    (orElse (refuse (ltb msg rx) (refused 2)) (orElse (refuse (not (eqb (length rec) size)) (refused 3)) (tableRefused (lentIn settings))))
+    (orElse (refuse (ltb msg rx) (refused 2)) (orElse (refuse (not (eqb (length rec) takes)) (refused 3)) (tableRefused (lentIn settings))))
 
 -- 3 "the length of either buffer differs from the one at opening"; or no reply fits its slice
 abbrev pub misfits : Seen → Event → Bool

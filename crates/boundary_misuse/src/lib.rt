@@ -1,1 +1,1 @@
-// Refusals of the exported functions, by what the host has seen (specs/), for every list of calls and reports (proofs/). No code.
+// What a caller is refused, by what the host has seen (specs/), and that a session in its record refuses so, event after event (proofs/). No code.

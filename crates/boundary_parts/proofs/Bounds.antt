@@ -33,7 +33,7 @@ use Rattle.boundary_misuse.specs.Misuse.{HostReport, hasRead, wrote, fault, rep
 use Rattle.boundary_misuse.proofs.Loaded.{Widths, loaded-narrow}
 use Rattle.boundary_misuse.proofs.Table.{Comes, numbered-narrow, behind-narrow, calls, misplaced, none-awaited, later, later-narrow, after, reported, reports}
 use Rattle.boundary_misuse.proofs.Unchanged.{asks, asked-of}
-use Rattle.boundary_parts.specs.Bounds.{named, toldPart, InBounds, PartsInside}
+use Rattle.boundary_parts.specs.Bounds.{named, toldPart, InBounds, PartsInside, sessionSteps}
 use Rattle.boundary_parts.proofs.Replies.{reply-in}
 
 abbrev given : Option Answer → Bool
@@ -67,7 +67,7 @@ module _ (rec rx msg lent out : List ℕ) (bytes : Bytes rec) (held : Bytes rx) 
         (omega (arith, f .rx)) (omega (arith, f .aside, f .msg)) (omega (arith, z)) (o .reply) (g .reply)
     back-in s r φ o (by-number {n = n} h) g e =
         subst (λ (y : Out). Fine (back rec out y)) (sym g)
-        (reply-in rx msg lent out room 0 0 (omega arith) (omega arith) (omega arith) (omega arith) (omega arith) (R.Told (A.Refused n)) h)
+        (reply-in rx msg lent out room 0 0 (omega arith) (omega arith) (omega arith) (omega arith) (omega arith) (R.Told (A.Refused n)) (h .1))
     back-in s r φ o (by-feature {n = n} h) g e =
         subst (λ (y : Out). Fine (back rec out y)) (sym g)
         (reply-in rx msg lent out room 0 0 (omega arith) (omega arith) (omega arith) (omega arith) (omega arith) (R.Told (A.Missing n)) h)
@@ -99,7 +99,7 @@ module _ (rec rx msg lent out : List ℕ) (bytes : Bytes rec) (held : Bytes rx) 
       go z none n = tt
       go z (some s) n = f z s n
 
-pub parts-inside : PartsInside
+pub parts-inside : PartsInside sessionSteps
 unfolding crossStart crossRead crossWrote crossFault
 parts-inside =
     record {

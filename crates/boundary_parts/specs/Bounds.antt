@@ -44,13 +44,23 @@ module _ (rx msg lent out : List ℕ) where
 abbrev pub InBounds : (lent : List ℕ) → Crossed → Type 0
 InBounds lent c = Inside (c .rx) (c .msg) lent (c .out) (named (c .number) (c .out))
 
+-- the four functions of a session's steps, with or without totals behind it
+pub record Steps : Type 0 where
+  pub start : (rec rx msg lent : List ℕ) → (call a b : ℕ) → (out : List ℕ) → Crossed
+  pub read : (rec rx msg lent : List ℕ) → (count : ℕ) → (out : List ℕ) → Crossed
+  pub wrote : (rec rx msg lent out : List ℕ) → Crossed
+  pub fault : (rec rx msg lent : List ℕ) → (kind code : ℕ) → (out : List ℕ) → Crossed
+
+abbrev pub sessionSteps : Steps
+sessionSteps = record { start = crossStart; read = crossRead; wrote = crossWrote; fault = crossFault }
+
 -- any record of bytes and any receive buffer; no slice has 2^63 bytes, and a mode, a time, flags and a code are 32 bits wide
-pub record PartsInside : Type 0 where
+pub record PartsInside (F : Steps) : Type 0 where
   pub start : (rec rx msg lent : List ℕ) (call a b : ℕ) (out : List ℕ) → Bytes rec → Bytes rx → length msg < 2 ^ 63 → length lent < 2 ^ 63
-      → a < 2 ^ 32 → b < 2 ^ 32 → InBounds lent (crossStart rec rx msg lent call a b out)
+      → a < 2 ^ 32 → b < 2 ^ 32 → InBounds lent (F .start rec rx msg lent call a b out)
   pub read : (rec rx msg lent : List ℕ) (count : ℕ) (out : List ℕ) → Bytes rec → Bytes rx → length msg < 2 ^ 63 → length lent < 2 ^ 63
-      → InBounds lent (crossRead rec rx msg lent count out)
+      → InBounds lent (F .read rec rx msg lent count out)
   pub wrote : (rec rx msg lent out : List ℕ) → Bytes rec → Bytes rx → length msg < 2 ^ 63 → length lent < 2 ^ 63
-      → InBounds lent (crossWrote rec rx msg lent out)
+      → InBounds lent (F .wrote rec rx msg lent out)
   pub fault : (rec rx msg lent : List ℕ) (kind code : ℕ) (out : List ℕ) → Bytes rec → Bytes rx → length msg < 2 ^ 63 → length lent < 2 ^ 63
-      → code < 2 ^ 32 → InBounds lent (crossFault rec rx msg lent kind code out)
+      → code < 2 ^ 32 → InBounds lent (F .fault rec rx msg lent kind code out)

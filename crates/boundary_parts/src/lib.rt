@@ -1,1 +1,1 @@
-// No code: whose bounds a reply's part keeps is said of the exported functions' definitions.
+// No code: that a reply's part lies inside its slice is said of the steps of a session, with or without totals.

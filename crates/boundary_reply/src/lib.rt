@@ -5,12 +5,14 @@ ghost use Prim.Native.Nat.{ℕ, _≤_};
 ghost use lib.ListN.{length};
 ghost use Rattle.protocol.specs.Bytes.{put, le};
 ghost use Rattle.protocol.specs.Decimal.{decimal};
+ghost use Rattle.protocol.specs.Messages.{word};
 ghost use Rattle.request_message.specs.Composed.{placed};
 ghost use Rattle.request_piece.specs.Pieces.{byValue};
 ghost use Rattle.record.specs.Record.{words};
 ghost use Rattle.boundary.specs.Told.{statWords, statV2Words, answerNumber, answerWords, replyNumber, replyBytes};
 use decimal::format_u32;
 use format_flags::FileMode;
+use format_number::put_u32;
 use format_number::put_u64;
 use format_record::StatV1;
 use format_record::StatV2;
@@ -182,6 +184,18 @@ pub fn put_piece(out: &mut [u8], p: Piece)
     }
     put_u64(out, 0, n as u64);
     piece_behind(out, p);
+}
+
+// The same of a header, by its two numbers.
+pub fn put_header_piece(out: &mut [u8], id: u32, arg: u32)
+    ensures { λ _. ⌜ now (out .exit) ≡ put (now (out .entry)) 0 (words (8 ∷ []) ++ word id ++ word arg) ⌝ }
+{
+    if out.len() < 16 {
+        return;
+    }
+    put_u64(out, 0, 8);
+    put_u32(out, 8, id);
+    put_u32(out, 12, arg);
 }
 
 // The bytes of a reply at the front of out, and its number; nothing altered where the bytes do not fit.

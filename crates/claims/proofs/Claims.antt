@@ -83,7 +83,7 @@ use Rattle.request_refusal.proofs.Laws as Refusing
 use Rattle.request_reader.specs.Answers as ReadFacts
 use Rattle.request_reader.proofs.Answers as Reading
 use Rattle.session.specs.Core.{showOf, coreSystem}
-use Rattle.session.specs.Demand3.{Claim}
+use Rattle.session.specs.Demand3.{unbounded, below, Claim}
 use Rattle.session.specs.EveryHost.{EveryHost}
 use Rattle.session.specs.Places as PlaceFacts
 use Rattle.session.specs.Examples.{Examples}
@@ -96,23 +96,26 @@ use Rattle.session.proofs.Places as Places
 use Rattle.session.proofs.Examples as Logs
 use Rattle.session.proofs.Resuming as Resuming
 use Rattle.session.proofs.Scripted as Scripted
-use Rattle.boundary.specs.Boundary.{boundary}
-use Rattle.boundary.specs.Crossing.{crossIds, crossOpen}
+use Rattle.boundary.specs.Crossing.{crossIds}
 use Rattle.boundary.specs.Crossings as CrossFacts
 use Rattle.boundary.specs.Heard.{heard}
 use Rattle.boundary.specs.Told.{replyNumber, replyBytes, outSize}
 use Rattle.boundary.proofs.Crossings as Crossings
-use Rattle.boundary.proofs.Demand3 as Boundary
 use Rattle.boundary.proofs.Heard as Heard
 use Rattle.boundary.proofs.Narrow.{NarrowReply}
 use Rattle.boundary_parts.specs.Bounds.{PartsInside}
-use Rattle.boundary_parts.proofs.Bounds as Bounds
 use Rattle.boundary_misuse.specs.Cases as CaseFacts
-use Rattle.boundary_misuse.specs.Claim as Table
 use Rattle.boundary_misuse.specs.Settled.{SettledClaim}
 use Rattle.boundary_misuse.proofs.Cases as Cases
-use Rattle.boundary_misuse.proofs.Misuse as Misuse
-use Rattle.boundary_misuse.proofs.Settled as Settled
+use Rattle.totals.specs.Card.{totalBy, CardClaim}
+use Rattle.totals.specs.Claim.{totalSteps, MisuseClaim}
+use Rattle.totals.specs.Crossing.{limit, totalOpen}
+use Rattle.totals.specs.Facts as CardFacts
+use Rattle.totals.specs.System.{totals}
+use Rattle.totals.proofs.Card as Card
+use Rattle.totals.proofs.Claim as Misuse
+use Rattle.totals.proofs.Facts as CardRows
+use Rattle.totals.proofs.Layer as Layer
 use Rattle.time_index.specs.Claim.{IndexClaim}
 use Rattle.time_index.specs.Facts as IndexFacts
 use Rattle.time_index.specs.Logged.{LoggedClaim}
@@ -133,13 +136,13 @@ use Rattle.claims.proofs.WholeSlots as SlotRows
 
 -- ---- the exported functions
 
--- demand 3, sentence by sentence (session/specs/Demand3)
-pub demand-3 : Claim boundary
-demand-3 = Boundary.demand-3
+-- demand 3, sentence by sentence (session/specs/Demand3), of sessions that receive and write fewer than 2^64 bytes
+pub demand-3 : Claim (below limit) totals
+demand-3 = Layer.demand-3-totals
 
 -- any host, also one whose reads, writes and close come to faults (session/specs/EveryHost, Faithful)
-pub every-host : EveryHost boundary
-every-host = Boundary.every-host
+pub every-host : EveryHost (below limit) totals
+every-host = Layer.every-host-totals
 
 -- files of ids: every table's loads, no other does, and what is loaded or lent is what a session keeps (id_table/specs/Claim)
 pub id-tables : IdTables
@@ -147,7 +150,7 @@ id-tables = Tables.id-tables
 
 -- settings that a file was loaded into open as its table
 pub loaded-opens : (settings file : List ℕ) → crossIds settings file .1 ≡ 0 → (values : List (List ℕ)) × (idsIn file ≡ ids values)
-    × ((rec banner : List ℕ) (rx msg : ℕ) → crossOpen rec (crossIds settings file .0) banner rx msg ≡ crossOpen rec (settingsOf (tableFrom values)) banner rx msg)
+    × ((rec banner : List ℕ) (rx msg : ℕ) → totalOpen rec (crossIds settings file .0) banner rx msg ≡ totalOpen rec (settingsOf (tableFrom values)) banner rx msg)
 loaded-opens = Loading.loaded-opens
 
 -- an index beside a listing, of every list of replies: what it holds, what it answers, what it turns away (time_index/specs/Claim)
@@ -155,25 +158,30 @@ pub index-claim : IndexClaim
 index-claim = Indexed.index-claim
 
 -- ... and beside demand 3's logs: it holds what the plain reader's answers make it hold (time_index/specs/Logged)
-pub index-logged : LoggedClaim
-index-logged = IndexLogged.logged-claim
+pub index-logged : LoggedClaim (below limit) totals
+index-logged = IndexLogged.logged-claim (below limit) totals demand-3
 
 -- the panel's side: every reply is said under every table, but for those that are too long; what is said is read back by the calls that it
 -- belongs to, however the cable cuts it; and what a host writes is heard (panel_side/specs/Claim)
-pub panel-claim : PanelClaim
-panel-claim = ReadBack.panel-claim
+pub panel-claim : PanelClaim (below limit) totals
+panel-claim = ReadBack.panel-claim (below limit) totals demand-3
 
--- what is misplaced is refused by the table, and nothing else is (boundary_misuse/specs/Claim)
-pub misuse : Table.MisuseClaim
+-- every list of calls and reports: what is misplaced is refused by the table, then 21, and nothing else is; and the record shows the totals at
+-- every moment (totals/specs/Card)
+pub card : CardClaim
+card = Card.card
+
+-- opening, by its table; the calls by their numbers; a refusal leaves any record unchanged (totals/specs/Claim)
+pub misuse : MisuseClaim
 misuse = Misuse.misuse
 
 -- no call and no report writes over what opening wrote: both lengths, the features, the ids (boundary_misuse/specs/Settled)
-pub settled-stays : SettledClaim
-settled-stays = Settled.settled-stays
+pub settled-stays : SettledClaim totalBy
+settled-stays = Misuse.settled-stays-totals
 
 -- no reply names a part outside its slice, whoever wrote the record (boundary_parts/specs/Bounds)
-pub parts-inside : PartsInside
-parts-inside = Bounds.parts-inside
+pub parts-inside : PartsInside totalSteps
+parts-inside = Misuse.parts-inside-totals
 
 -- what the host hears of a reply, in any slice that holds one, is what the reply says
 pub heard-told : (out : List ℕ) → outSize ≤ length out → (c l : ℕ) → U64 c → U64 l → (rx msg : List ℕ) (r : Reply) → NarrowReply c l r
@@ -186,10 +194,10 @@ loaded-stored = Stored.loaded-stored
 
 -- ---- the session's own steps
 
-pub core-claim : Claim coreSystem
+pub core-claim : Claim unbounded coreSystem
 core-claim = Core.core-claim
 
-pub core-hosts : EveryHost coreSystem
+pub core-hosts : EveryHost unbounded coreSystem
 core-hosts = Core.core-hosts
 
 -- ---- two plain readers, with capacities c ≤ d
@@ -368,6 +376,17 @@ crossings-hold = (
 -- ... which capacity each wants, and what it is read as
 pub read-back-holds : Hold ReadBackFacts.capacities × Hold ReadBackFacts.answers
 read-back-holds = (ReadBackRows.capacities-hold, ReadBackRows.answers-hold)
+
+-- the card: what each event adds, what is refused, where the numbers lie; sessions, moment by moment
+pub sums-hold : Hold CardFacts.added × Hold CardFacts.refusals × Hold CardFacts.places × Hold CardFacts.opening
+sums-hold = (CardRows.added-hold, CardRows.refusals-hold, CardRows.places-hold, CardRows.opening-holds)
+
+pub card-runs-hold : Hold CardFacts.stats × Hold CardFacts.drains × Hold CardFacts.closes × Hold CardFacts.overs × Hold CardFacts.replies
+card-runs-hold = (CardRows.stats-hold, CardRows.drains-hold, CardRows.closes-hold, CardRows.overs-hold, CardRows.replies-hold)
+
+-- ... what shows the sums and what does not; how many bytes the comparisons' bound lets through
+pub card-words : CardFacts.Shown × CardFacts.Bounded
+card-words = (CardRows.shown, CardRows.bounded)
 
 -- the panel's request reader, decimals, modes, the ids
 pub receiving-holds : Hold ReceiveFacts.receiving

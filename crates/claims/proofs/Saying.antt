@@ -8,31 +8,33 @@ use mathlib.Core.Option.{some}
 use mathlib.Core.Path.{_≡_, refl, ap}
 use native.Mathlib.Omega.{arith}
 use Rattle.protocol.specs.Bytes.{numberAt, signed, over, put}
-use Rattle.protocol.specs.Calls.{v1, v2}
+use Rattle.protocol.specs.Calls.{v1, v2, cut, messages}
+use Rattle.protocol.specs.Digits.{digits}
 use Rattle.protocol.specs.Features.{restAfter, split, hasFeature, featuresOf}
 use Rattle.protocol.specs.Flags.{several, unknown, dryRun, refusedFlags}
 use Rattle.protocol.specs.Ids.{letters}
-use Rattle.protocol.specs.Reader.{accepted}
+use Rattle.protocol.specs.Messages.{messageOf, bytesOfRequest}
+use Rattle.protocol.specs.Reader.{accepted, writes, plainWrites}
 use Rattle.protocol.specs.Refusal.{pathRefusal, flagRefusal, featureRefusal, transferRefusal, requestRefusal, refusal}
 use Rattle.protocol.proofs.Ids.{published-legal}
 use Rattle.id_table.specs.IdsFile.{checked}
 use Rattle.id_table.specs.Settings.{settingsOf, lentIn}
 use Rattle.id_table.proofs.Laws.{id-tables}
 use Rattle.session.specs.Demand3.{Opening, Side, reader}
-use Rattle.boundary.specs.Boundary.{boundary}
+use Rattle.totals.specs.System.{totals}
 use Rattle.panel_reply.specs.Replies.{Reply, behindId, isShort}
 use Rattle.panel_side.specs.Crossing.{withStat, withStat2, replyNumbered, crossSpeak}
 use Rattle.panel_side.specs.Claim.{IsReadBack}
 use Rattle.panel_side.specs.ReadBack.{Utterance, spokenBy, Lends, Says, says-none, says-next, sentAll, stat-reads, stat2-reads, step-reads, chunk-reads, done-reads, of-stat, of-stat2, of-entry, of-entry2, of-listing-end, of-chunk, of-transfer-end, of-okay, of-fail, list-writes, recv-writes, list2-writes, recv2-writes, send-writes, send2-writes, data-writes, Dialogue, over as ended, reading, writing, NoneRefused}
-use Rattle.panel_side.proofs.ReadBack.{panel-claim}
 use Rattle.claims.specs.Saying.{sevenBanner, say, utterances, replies, sent, path, made, heard}
-use Rattle.claims.proofs.Applied.{below, below-bytes, side}
+use Rattle.claims.proofs.Applied.{allBytes, below-bytes, side}
+use Rattle.claims.proofs.Claims.{panel-claim}
 
 lends : Lends (settingsOf letters) letters
 lends = id-tables .opens letters published-legal
 
 -- a reply that is answered 0
-next : {k : ℕ} {numbers lent : List ℕ} {r : Reply} {us : List Utterance} {rs : List Reply} → below numbers ≡ true → replyNumbered k numbers lent ≡ some r
+next : {k : ℕ} {numbers lent : List ℕ} {r : Reply} {us : List Utterance} {rs : List Reply} → allBytes numbers ≡ true → replyNumbered k numbers lent ≡ some r
     → spokenBy (say (settingsOf letters) k numbers lent) .number ≡ 0 → Says letters us rs → Says letters (say (settingsOf letters) k numbers lent ∷ us) (r ∷ rs)
 next {k} {numbers} {lent} {r} b given zero-told more =
     says-next (say (settingsOf letters) k numbers lent) r lends (below-bytes numbers b) (omega arith) given zero-told more
@@ -69,10 +71,11 @@ unfolding several unknown dryRun refusedFlags pathRefusal flagRefusal featureRef
 free = (refl, (refl, (refl, (refl, (refl, (refl, (refl, (refl, (refl, (refl, (refl, (refl, (refl, (refl, (refl, (refl, (refl, (refl, (refl, (refl, (refl, (refl, tt))))))))))))))))))))))
 
 -- a byte a read, on a receive buffer of 76 bytes; a byte behind the replies stays unread
-abbrev reads : Side boundary 76 accepted
+abbrev reads : Side totals 76 accepted
 reads = side 76 (sent ++ 0xFF ∷ []) refl (omega arith) refl
 
-pub said-read : IsReadBack seven accepted made 76 reads heard (0xFF ∷ [])
+pub said-read : IsReadBack totals seven accepted made 76 reads heard (0xFF ∷ [])
+unfolding plainWrites writes several unknown dryRun refusedFlags pathRefusal flagRefusal featureRefusal transferRefusal requestRefusal refusal restAfter split hasFeature featuresOf messages messageOf bytesOfRequest digits cut
 said-read =
     panel-claim .reads-back seven accepted 76 (omega arith) tt (utterances (settingsOf letters)) replies says (omega arith) made heard belong free (omega arith) reads
-    (0xFF ∷ []) (ap (λ (l : List ℕ). l ++ 0xFF ∷ []) is-sent)
+    (0xFF ∷ []) (ap (λ (l : List ℕ). l ++ 0xFF ∷ []) is-sent) (omega arith, omega arith)

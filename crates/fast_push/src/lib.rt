@@ -10,7 +10,7 @@ ghost use Rattle.fast_replies.specs.Direct.{tried};
 ghost use Rattle.record.specs.Record.{size, words};
 ghost use Rattle.fast_record.specs.Standing.{numberIn, movedNumbers};
 ghost use Rattle.fast_push.specs.Pushing.{accepted, hasRoom, nextIn, pushStep, partDone, partNow, headerDone, headerNow, wholeDone, wholeNow};
-use boundary_reply::put_piece;
+use boundary_reply::put_header_piece;
 use boundary_reply::put_two;
 use fast_record::fits;
 use fast_record::id_in;
@@ -26,7 +26,6 @@ use record::STATE;
 use record::TAIL;
 use request::Request;
 use request_message::compose_at;
-use request_piece::Piece;
 use session_messages::carried;
 
 // Whether a session that stands has the k-th piece of a DATA message out; 0, the whole message.
@@ -119,7 +118,7 @@ fn put_header(rec: &mut [u8], rx: &[u8], lent: &[u8], out: &mut [u8]) -> bool
         }
         let arg = (n % 0x1_0000_0000) as u32;
         let id = id_in(rec, SyncId::Data);
-        put_piece(out, Piece::Header(id, arg));
+        put_header_piece(out, id, arg);
         store_push(rec, from, 1);
         return true;
     }

@@ -1,14 +1,13 @@
 -- Laws of `specs/Crossing.antt`: a request by its words, answers by the table in some settings, a reply by its kind and its numbers, and one
 -- that was said.
 -- Assumes nothing.
-use mathlib.Core.Bool.{Bool, true, false, _&&_}
+use mathlib.Core.Bool.{Bool, true, false}
 use mathlib.Core.List.{List, [], _∷_}
 use mathlib.Core.Option.{none, some}
 use mathlib.Core.Path.{_≡_, refl, sym, ap, _∙_}
 use Prim.Native.Nat.{ℕ, _≤_}
 use native.Mathlib.Omega.{arith}
-use borrow.Author.Tests.{leb-true, le-ltb}
-use lib.Dec.{leb}
+use borrow.Author.Tests.{le-ltb}
 use lib.ListN.{length, length-append, List·getD-eq-default}
 use Rattle.protocol.specs.Bytes.{pick, bytesOf, over, put}
 use Rattle.protocol.specs.Ids.{Dialect}
@@ -21,7 +20,7 @@ use Rattle.id_table.specs.declared.Lent.{Lent}
 use Rattle.ids.specs.Ids.{numberOf, dialectOf}
 use Rattle.ids.specs.declared.Ids.{Ids}
 use Rattle.panel_reply.specs.Replies as P
-use Rattle.panel_reply.specs.Replies.{behindId, replyId, bytesOfReply, fits32, isTaken, spoken, written}
+use Rattle.panel_reply.specs.Replies.{behindId, replyId, bytesOfReply, isTaken, spoken, written}
 use Rattle.panel_writer.specs.Meaning.{meant, said}
 use Rattle.panel_writer.specs.declared.Reply.{Reply}
 use Rattle.record.specs.Record.{words}
@@ -29,7 +28,7 @@ use Rattle.request.specs.Meaning as Heard
 use Rattle.request.specs.declared.Request.{Request}
 use Rattle.request_reader.specs.Meaning.{told}
 use Rattle.request_reader.specs.declared.Read as R
-use Rattle.panel_side.specs.Crossing.{longReply, onTable, statIn, stat2In, statNarrow, stat2Narrow, statRoom, stat2Room, replyNumbered, spoke, saying, ifGiven, crossSpeak, requestWords, hearing, sliced, crossHeard}
+use Rattle.panel_side.specs.Crossing.{longReply, onTable, replyNumbered, spoke, saying, ifGiven, crossSpeak, requestWords, hearing, sliced, crossHeard}
 use Rattle.panel_crossing.specs.declared.Given.{Given}
 use Rattle.panel_crossing.specs.Given.{given}
 

@@ -1,16 +1,20 @@
 -- The calls that replies belong to, with all seven features: none of them is refused. Assumes nothing.
-use Prim.Native.Nat.{ℕ}
+use Prim.Native.Nat.{ℕ, _*_, _≤_}
 use mathlib.Core.Bool.{true}
-use mathlib.Core.List.{List, [], _∷_, map}
-use mathlib.Core.Option.{none}
+use mathlib.Core.List.{List, [], _∷_, _++_, map, append-nil}
+use mathlib.Core.Option.{Option, none, some}
 use mathlib.Core.Path.{_≡_, refl}
 use native.Mathlib.Omega.{arith}
-use lib.ListN.{replicate}
-use Rattle.protocol.specs.Calls.{v1, v2, Call, call, nextEntry, nextChunk}
+use lib.ListN.{length, replicate, length-append}
+use Rattle.protocol.specs.Answers.{Answer}
+use Rattle.protocol.specs.Calls.{v1, v2, Call, call, nextEntry, nextChunk, messages, joinedMessages}
 use Rattle.protocol.specs.Features.{featuresOf}
+use Rattle.protocol.specs.Ids.{Dialect, Sound, STAT, STA2, DONE}
 use Rattle.protocol.specs.Messages as Q
-use Rattle.protocol.specs.Reader.{Report}
+use Rattle.protocol.specs.Messages.{messageOf, bytesOfRequest}
+use Rattle.protocol.specs.Reader.{Config, Report, unlessWritten, writes, configAfter, plainWrites}
 use Rattle.protocol.specs.Refusal.{pathRefusal, featureRefusal, requestRefusal, refusal}
+use Rattle.protocol.proofs.Ids.{legal-sound}
 use Rattle.session.specs.Demand3.{Opening, Wide, AllWide, reader}
 use Rattle.panel_reply.specs.Replies.{Reply, stat, stat2, entry, entry2, listingEnd, chunk, transferEnd, okay, fail}
 use Rattle.panel_side.specs.ReadBack.{chunk-reads, BelongsTo, of-stat, of-stat2, of-entry, of-entry2, of-listing-end, of-chunk, of-transfer-end, of-okay, of-fail, readAs, Dialogue, over, reading, NoneRefused}
@@ -49,6 +53,43 @@ wide transferEnd = tt
 wide okay = omega arith
 wide (fail t) = tt
 
+-- ---- what they write
+
+unless-fewer : (o : Option Answer) (m : List ℕ) (n : ℕ) → length m ≤ n → length (unlessWritten o m) ≤ n
+unless-fewer (some a) m n h = omega arith
+unless-fewer none m n h = h
+
+-- a header at most
+header-few : (x : List ℕ) → length x ≡ 4 → length (((x ++ 0 ∷ 0 ∷ 0 ∷ 0 ∷ []) ++ []) ++ []) ≤ 8
+header-few x e =
+    let y : List ℕ = x ++ 0 ∷ 0 ∷ 0 ∷ 0 ∷ [] in
+    rw (append-nil (y ++ []), append-nil y) (omega (arith, e, length-append x (0 ∷ 0 ∷ 0 ∷ 0 ∷ [])))
+
+joined-few : (d : Dialect) → Sound d → (r : Reply) → length (joinedMessages d (messages (callFor r))) ≤ 8
+unfolding messages bytesOfRequest messageOf
+joined-few d s (stat x) = header-few (d .bytes STAT) (s .four STAT)
+joined-few d s (stat2 x) = header-few (d .bytes STA2) (s .four STA2)
+joined-few d s (entry x name) = omega arith
+joined-few d s (entry2 x name) = omega arith
+joined-few d s (listingEnd v) = omega arith
+joined-few d s (chunk b) = omega arith
+joined-few d s transferEnd = omega arith
+joined-few d s okay = header-few (d .bytes DONE) (s .four DONE)
+joined-few d s (fail t) = omega arith
+
+writes-few : (g : Config) → Sound (g .setting .dialect) → (rs : List Reply) → length (plainWrites g (map callFor rs)) ≤ 8 * length rs
+unfolding plainWrites writes
+writes-few g s [] = omega arith
+writes-few g s (r ∷ rs) =
+    let m : List ℕ = joinedMessages (g .setting .dialect) (messages (callFor r)) in
+    let w : List ℕ = unlessWritten (refusal (g .setting) (callFor r)) m in
+    omega (
+      arith,
+      unless-fewer (refusal (g .setting) (callFor r)) m 8 (joined-few (g .setting .dialect) s r),
+      writes-few (configAfter g (callFor r)) s rs,
+      length-append w (plainWrites (configAfter g (callFor r)) (map callFor rs)),
+    )
+
 module _ (o : Opening) (all : featuresOf (o .banner) ≡ replicate 7 true) (close : Report) (c : ℕ) where
   free : (r : Reply) → refusal (reader o c close .setting) (callFor r) ≡ none
   unfolding refusal requestRefusal pathRefusal featureRefusal
@@ -74,5 +115,7 @@ module _ (o : Opening) (all : featuresOf (o .banner) ≡ replicate 7 true) (clos
   all-wide [] = tt
   all-wide (r ∷ rs) = (wide r, all-wide rs)
 
-  pub has-calls : (rs : List Reply) → (qs : List Call) × (Dialogue qs rs (map readAs rs) × (NoneRefused (reader o c close .setting) qs × AllWide qs))
-  has-calls rs = (map callFor rs, (made rs, (all-free rs, all-wide rs)))
+  pub has-calls : (rs : List Reply) → (qs : List Call)
+      × (Dialogue qs rs (map readAs rs)
+      × (NoneRefused (reader o c close .setting) qs × (AllWide qs × (length (plainWrites (reader o c close) qs) ≤ 8 * length rs))))
+  has-calls rs = (map callFor rs, (made rs, (all-free rs, (all-wide rs, writes-few (reader o c close) (legal-sound (o .table) (o .legal)) rs))))

@@ -11,9 +11,7 @@ use Rattle.protocol.specs.Calls.{Call}
 use Rattle.protocol.specs.Ids.{Table, Legal, under}
 use Rattle.protocol.specs.Reader.{Report, plainAnswers}
 use Rattle.protocol.proofs.Ids.{legal-sound}
-use Rattle.session.specs.Demand3.{Opening, Side, AllWide, CodedReport, Demand3, reader, logFrom}
-use Rattle.boundary.specs.Boundary.{boundary}
-use Rattle.boundary.proofs.Demand3.{demand-3}
+use Rattle.session.specs.Demand3.{Opening, System, Bound, Within, Claim, Side, AllWide, CodedReport, Demand3, reader, logFrom}
 use Rattle.panel_reply.specs.Replies.{Reply, bytesOfReply, behindId, isShort}
 use Rattle.panel_side.specs.Crossing.{Spoken}
 use Rattle.panel_side.specs.Claim.{IsReadBack, PanelClaim}
@@ -43,11 +41,11 @@ all-good t legal c (says-next u r lends bytes narrow given zero-told more) h = (
 
 -- ---- what is read
 
-module _ (o : Opening) (close : Report) (c : ℕ) (least : 8 ≤ c) (coded : CodedReport close) (us : List Utterance) (rs : List Reply) (says : Says (o .table) us rs)
+module _ {X : Type 0} (W : Bound) (S : System X) (claim : Claim W S) (o : Opening) (close : Report) (c : ℕ) (least : 8 ≤ c) (coded : CodedReport close) (us : List Utterance) (rs : List Reply) (says : Says (o .table) us rs)
     (held : Held c rs) (qs : List Call) (answers : List Answer) (made : Dialogue qs rs answers) (free : NoneRefused (reader o c close .setting) qs)
-    (wide : AllWide qs) (a : Side boundary c close) (rest : List ℕ) (comes : a .incoming ≡ sentAll us ++ rest) where
-  third : Demand3 boundary o close qs c c a a
-  third = demand-3 o close qs c c least (omega arith) coded wide a a [] (sym (append-nil (a .incoming)))
+    (wide : AllWide qs) (a : Side S c close) (rest : List ℕ) (comes : a .incoming ≡ sentAll us ++ rest) (within : Within W (reader o c close) qs (a .incoming)) where
+  third : Demand3 S o close qs c c a a
+  third = claim o close qs c c least (omega arith) coded wide a a [] (sym (append-nil (a .incoming))) within within
 
   came : a .incoming ≡ bytesOfAll (under (o .table)) rs ++ rest
   came = comes ∙ ap (λ (l : List ℕ). l ++ rest) (sent-all (o .table) (o .legal) says)
@@ -55,7 +53,7 @@ module _ (o : Opening) (close : Report) (c : ℕ) (least : 8 ≤ c) (coded : Cod
   good : AllGood c rs
   good = all-good (o .table) (o .legal) c says held
 
-  is-read-back : IsReadBack o close qs c a answers rest
+  is-read-back : IsReadBack S o close qs c a answers rest
   is-read-back =
       record {
         opens = third .opens-a;
@@ -64,14 +62,15 @@ module _ (o : Opening) (close : Report) (c : ℕ) (least : 8 ≤ c) (coded : Cod
             ∙ ap (plainAnswers (reader o c close) (a .host .end) qs) came
             ∙ dialogue-read (reader o c close) (legal-sound (o .table) (o .legal)) least (a .host .end) rest made good free;
         leaves =
-            log-left (reader o c close) (a .host .end) qs (a .incoming) (logFrom boundary o qs a) (third .reads-a) (third .ends-a)
+            log-left (reader o c close) (a .host .end) qs (a .incoming) (logFrom S o qs a) (third .reads-a) (third .ends-a)
             ∙ ap (plainLeft (reader o c close) (a .host .end) qs) came
             ∙ dialogue-left (reader o c close) (legal-sound (o .table) (o .legal)) least (a .host .end) rest made good free;
       }
 
-pub panel-claim : PanelClaim
+-- of any system that demand 3 is claimed of
+pub panel-claim : {X : Type 0} (W : Bound) (S : System X) → Claim W S → PanelClaim W S
 unfolding behindId
-panel-claim =
+panel-claim W S claim =
     record {
       every-reply = numbered-back;
       only-fitting = fits-given;
@@ -88,7 +87,7 @@ panel-claim =
       end-zeros = λ d. refl;
       okay-zeros = λ d. refl;
       has-calls = has-calls;
-      reads-back = is-read-back;
+      reads-back = is-read-back W S claim;
       hears-by = hears-by;
       hears = hears;
       hears-lent = hears-lent;

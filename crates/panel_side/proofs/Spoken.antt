@@ -31,7 +31,7 @@ use Rattle.boundary.specs.Heard.{at}
 use Rattle.boundary.specs.Told.{outSize}
 use Rattle.boundary.proofs.Heard.{put-front}
 use Rattle.boundary.proofs.Narrow.{signed-fits}
-use Rattle.panel_reply.specs.Replies.{Reply, stat, stat2, entry, entry2, listingEnd, chunk, transferEnd, okay, fail, bytesOfReply, fits32, isShort, isTaken, sayLent}
+use Rattle.panel_reply.specs.Replies.{Reply, stat, stat2, entry, entry2, listingEnd, chunk, transferEnd, okay, fail, bytesOfReply, isShort, isTaken, sayLent}
 use Rattle.panel_side.specs.Crossing.{statIn, stat2In, statNarrow, stat2Narrow, numbersOfStat, numbersOfStat2, statRoom, stat2Room, withStat, withStat2, replyNumbered, sayKind, sayNumbers, Spoken, spoke, saying, ifGiven, onTable, longReply, misplaced, crossSpeak}
 use Rattle.panel_side.specs.Claim.{FitsStat, FitsStat2, Fits, TooLong, no-room, much-data, long-name, long-name2, long-text}
 use Rattle.panel_side.specs.ReadBack.{Lends}

@@ -1,6 +1,6 @@
 -- What is promised of the panel's side, as it crosses (document 02, [4]).
 -- Assumes nothing.
-use Prim.Native.Nat.{ℕ, _≤_, _<_, _^_}
+use Prim.Native.Nat.{ℕ, _*_, _≤_, _<_, _^_}
 use mathlib.Core.List.{List, [], _∷_, _++_, map}
 use mathlib.Core.Bool.{true}
 use mathlib.Core.Option.{none, some}
@@ -13,16 +13,15 @@ use Rattle.protocol.specs.Features.{featuresOf}
 use Rattle.protocol.specs.Ids.{Table, Legal, Dialect, under, DONE, OKAY}
 use Rattle.protocol.specs.Messages as Q
 use Rattle.protocol.specs.Messages.{HostWrites, bytesOfRequest}
-use Rattle.protocol.specs.Reader.{Report}
+use Rattle.protocol.specs.Reader.{Report, plainWrites}
 use Rattle.protocol.specs.Records.{Stat, Stat2, headerSize}
 use Rattle.protocol.specs.Requests.{readRequest}
 use Rattle.id_table.specs.Settings.{lentIn}
 use Rattle.id_table.specs.declared.Lent.the-variants as L
 use Rattle.record.specs.Narrow.{U32, U64, I64}
 use Rattle.record.specs.Record.{words}
-use Rattle.session.specs.Demand3.{Opening, Side, AllWide, CodedReport, reader, logFrom, answersOf}
+use Rattle.session.specs.Demand3.{Opening, System, Bound, Within, Side, AllWide, CodedReport, reader, logFrom, answersOf}
 use Rattle.session.specs.Host.{Entry, lentOf}
-use Rattle.boundary.specs.Boundary.{boundary}
 use Rattle.boundary.specs.Told.{outSize}
 use Rattle.panel_reply.specs.Replies.{Reply, stat, stat2, entry, entry2, listingEnd, chunk, transferEnd, okay, fail, bytesOfReply, sayLent}
 use Rattle.panel_side.specs.Crossing.{sayKind, sayNumbers, replyNumbered, spoke, misplaced, longReply, nothing, requestWords, hearing, crossSpeak, crossHeard}
@@ -85,16 +84,17 @@ abbrev pub leftAfter : List Entry → (incoming : List ℕ) → List ℕ
 leftAfter [] u = u
 leftAfter (e ∷ es) u = leftAfter es (e .unread)
 
-module _ (o : Opening) (close : Report) (qs : List Call) (c : ℕ) (a : Side boundary c close) (answers : List Answer) (rest : List ℕ) where
+module _ {X : Type 0} (S : System X) (o : Opening) (close : Report) (qs : List Call) (c : ℕ) (a : Side S c close) (answers : List Answer) (rest : List ℕ) where
   -- the session opens, its answers are these, and all that was said is read, and none of what is behind it
   pub record IsReadBack : Type 0 where
-    pub opens : boundary .opened (a .x) o (a .rx) (a .msg) .number ≡ 0
-    pub reads : answersOf (logFrom boundary o qs a) ≡ answers
-    pub leaves : leftAfter (logFrom boundary o qs a) (a .incoming) ≡ rest
+    pub opens : S .opened (a .x) o (a .rx) (a .msg) .number ≡ 0
+    pub reads : answersOf (logFrom S o qs a) ≡ answers
+    pub leaves : leftAfter (logFrom S o qs a) (a .incoming) ≡ rest
 
--- ---- the claim
+-- ---- the claim: S is the system whose sessions read back, within the bound W ("those that read back under [4], are ones whose totals stay below
+-- that": document 02, [7])
 
-pub record PanelClaim : Type 0 where
+pub record PanelClaim {X : Type 0} (W : Bound) (S : System X) : Type 0 where
   -- every reply has its numbers, whatever the bits of its fields, whatever its name, data or text; and no other numbers are a reply's
   pub every-reply : (r : Reply) → Fits r → replyNumbered (sayKind r) (words (sayNumbers r)) (sayLent r) ≡ some r
   pub only-fitting : (k : ℕ) (numbers lent : List ℕ) (r : Reply) → Bytes numbers → replyNumbered k numbers lent ≡ some r → Fits r
@@ -119,16 +119,18 @@ pub record PanelClaim : Type 0 where
   pub listing2-zeros : (d : Dialect) → bytesOfReply d (listingEnd v2) ≡ d .bytes DONE ++ replicate 72 0
   pub end-zeros : (d : Dialect) → bytesOfReply d transferEnd ≡ d .bytes DONE ++ replicate 4 0
   pub okay-zeros : (d : Dialect) → bytesOfReply d okay ≡ d .bytes OKAY ++ replicate 4 0
-  -- "a fresh session with all seven features .., making the call each belongs to .., none refused": of every list of replies there are such calls
+  -- "a fresh session with all seven features .., making the call each belongs to .., none refused": of every list of replies there are such calls,
+  -- which write little
   pub has-calls : (o : Opening) → featuresOf (o .banner) ≡ replicate 7 true → (close : Report) (c : ℕ) (rs : List Reply)
-      → (qs : List Call) × (Dialogue qs rs (map readAs rs) × (NoneRefused (reader o c close .setting) qs × AllWide qs))
-  -- any list of replies that are taken, any banner and table, any cuts, any bytes behind them: a fresh session that makes their calls reads
-  -- them, and no more
+      → (qs : List Call)
+      × (Dialogue qs rs (map readAs rs) × (NoneRefused (reader o c close .setting) qs × (AllWide qs × (length (plainWrites (reader o c close) qs) ≤ 8 * length rs))))
+  -- any list of replies that are taken, any banner and table, any cuts, any bytes behind them, within the bound: a fresh session that makes
+  -- their calls reads them, and no more
   pub reads-back : (o : Opening) (close : Report) (c : ℕ) → 8 ≤ c → CodedReport close
       → (us : List Utterance) (rs : List Reply) → Says (o .table) us rs → Held c rs
       → (qs : List Call) (answers : List Answer) → Dialogue qs rs answers → NoneRefused (reader o c close .setting) qs → AllWide qs
-      → (a : Side boundary c close) (rest : List ℕ) → a .incoming ≡ sentAll us ++ rest
-      → IsReadBack o close qs c a answers rest
+      → (a : Side S c close) (rest : List ℕ) → a .incoming ≡ sentAll us ++ rest → Within W (reader o c close) qs (a .incoming)
+      → IsReadBack S o close qs c a answers rest
   -- `yuglasno_heard` is the request reader, by the table in the settings: what is proved of that reader is proved of it ..
   pub hears-by : (settings : List ℕ) (t : Table) → Legal t → Lends settings t → (bytes out : List ℕ) → outSize ≤ length out
       → crossHeard settings bytes out ≡ hearing out (readRequest (under t) bytes)

@@ -49,7 +49,7 @@ told =
     ∷ row (A.unexpected (ascii "OKAY")) 15 [] (ascii "OKAY")
     ∷ row (A.errno 5) 16 (pos 5 ∷ []) []
     ∷ row A.tooLarge 17 [] []
-    ∷ map (λ n. row (A.refused n) n [] []) (1 ∷ 2 ∷ 3 ∷ 4 ∷ 5 ∷ 6 ∷ 7 ∷ 8 ∷ 9 ∷ 11 ∷ [])
+    ∷ map (λ n. row (A.refused n) n [] []) (1 ∷ 2 ∷ 3 ∷ 4 ∷ 5 ∷ 6 ∷ 7 ∷ 8 ∷ 9 ∷ 11 ∷ 21 ∷ [])
 
 -- ---- "9 flags: DRY_RUN on RCV2, a bit outside hexadecimal 80000007 (added), or more than one of the bits 1, 2 and 4 is set"
 

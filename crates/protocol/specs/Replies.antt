@@ -7,7 +7,6 @@ use mathlib.Core.List.{List, [], _∷_, _++_, map}
 use lib.IntN.{pos, negsuc}
 use lib.ListN.{take, drop, replicate}
 use Rattle.protocol.specs.Answers as A
-use Rattle.protocol.specs.Answers.{Answer}
 use Rattle.protocol.specs.Bytes.{ascii}
 use Rattle.protocol.specs.Calls.{v1, v2, Call, call, nextEntry, nextChunk}
 use Rattle.protocol.specs.Fact.{Fact}

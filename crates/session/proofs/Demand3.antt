@@ -20,7 +20,7 @@ use Rattle.features.specs.Meaning.{listed}
 use Rattle.recv_buf.specs.RecvBuf.{heldBytes}
 use Rattle.session.specs.Calls.{fresh, openRefusal}
 use Rattle.session.specs.Core.{core, featuresFrom, coreSystem}
-use Rattle.session.specs.Demand3.{Opening, System, CodedFault, CodedReport, AllWide, Side, reader, logFrom, answersOf, failLength, Demand3, Claim}
+use Rattle.session.specs.Demand3.{Opening, System, CodedFault, CodedReport, AllWide, Side, reader, logFrom, answersOf, failLength, Demand3, Bound, unbounded, Within, Claim}
 use Rattle.session.specs.EveryHost.{CodedHost, EveryHost}
 use Rattle.session.specs.Faithful.{Faithful}
 use Rattle.session.specs.Host.{Host, Entry, atStart, logOf}
@@ -28,7 +28,6 @@ use Rattle.session.specs.State.{St, st, Good}
 use Rattle.session.proofs.Accepts.{AllAccepted, log-accepts}
 use Rattle.session.proofs.Calls.{faithful}
 use Rattle.session.proofs.Logs.{log-ends, log-reads, log-closes, log-answers, log-written, log-unread}
-use Rattle.session.proofs.Run.{configOf}
 use Rattle.session.proofs.Turns.{held}
 
 -- ---- two logs: xs and ys their answers, l the length of the FAIL that A's k-th call would meet
@@ -105,20 +104,21 @@ module _ {X : Type 0} (S : System X) (opening : Opening) (close : Report) (qs : 
       meets k l = ap argAt (log-unread (a .host .end) g qs (a .incoming) A o f k (omega arith))
 
 -- a host that accepts every write is a host
-module _ {X : Type 0} (S : System X) (every : EveryHost S) (opening : Opening) (close : Report) (qs : List Call) (c : ℕ) (least : 8 ≤ c)
-    (coded : CodedReport close) (v : AllWide qs) (a : Side S c close) where
+module _ {X : Type 0} (W : Bound) (S : System X) (every : EveryHost W S) (opening : Opening) (close : Report) (qs : List Call) (c : ℕ) (least : 8 ≤ c)
+    (coded : CodedReport close) (v : AllWide qs) (a : Side S c close) (within : Within W (reader opening c close) qs (a .incoming)) where
   side-ok : (S .opened (a .x) opening (a .rx) (a .msg) .number ≡ 0)
       × Faithful (reader opening c close) (a .host .end) qs (a .incoming) (logFrom S opening qs a)
   side-ok =
       let z : CodedHost (a .host) =
       record { reads = λ i. subst CodedFault (sym (a .reads i)) tt; writes = λ i. subst CodedReport (sym (a .accepts i)) tt; close = subst CodedReport (sym (a .closes)) coded; end = a .coded } in
       rw (sym (a .capacity), sym (a .closes))
-      (every opening (a .x) (a .rx) (a .msg) (a .placed) (omega (arith, a)) (omega (arith, a)) (a .wide) (a .host) z (a .lends) qs v (a .incoming) (a .bytes))
+      (every opening (a .x) (a .rx) (a .msg) (a .placed) (omega (arith, a)) (omega (arith, a)) (a .wide) (a .host) z (a .lends) qs v (a .incoming) (a .bytes)
+      (rw (a .capacity, a .closes) within))
 
-pub claimed : {X : Type 0} (S : System X) → EveryHost S → Claim S
-claimed S every opening close qs c d least wide coded v a b more e =
-    let x = side-ok S every opening close qs c least coded v a in
-    let y = side-ok S every opening close qs d (omega arith) coded v b in
+pub claimed : {X : Type 0} (W : Bound) (S : System X) → EveryHost W S → Claim W S
+claimed W S every opening close qs c d least wide coded v a b more e within within′ =
+    let x = side-ok W S every opening close qs c least coded v a within in
+    let y = side-ok W S every opening close qs d (omega arith) coded v b within′ in
     demand S opening close qs c d least wide a b (x .0) (y .0) (x .1) (y .1) more e
 
 -- ---- the session's own steps
@@ -154,9 +154,9 @@ module _ (opening : Opening) (rx msg : List ℕ) (least : 8 ≤ length rx) (room
       subst (λ (y : List ℕ). Faithful g (h .end) qs (y ++ incoming) (logOf core h qs (atStart incoming) (begins .ses) rx msg)) begins-empty
       (faithful h g qs (atStart incoming) begins begins-good refl (rw (features-listed (opening .banner), dialect-back (opening .table) (opening .legal))))
 
-pub core-hosts : EveryHost coreSystem
-core-hosts opening x rx msg placed least room wide h z lends qs v incoming b =
+pub core-hosts : EveryHost unbounded coreSystem
+core-hosts opening x rx msg placed least room wide h z lends qs v incoming b within =
     (opens opening rx msg least room, rw (opens opening rx msg least room) (begins-faithful opening rx msg least room h qs incoming))
 
-pub core-claim : Claim coreSystem
-core-claim = claimed coreSystem core-hosts
+pub core-claim : Claim unbounded coreSystem
+core-claim = claimed unbounded coreSystem core-hosts

@@ -1,7 +1,7 @@
 -- Demand 3, sentence by sentence, of any system: an engine and how a session is opened on it.
 -- Assumes nothing.
 use Prim.Native.Nat.{ℕ, _+_, _≤_, _<_, _^_}
-use mathlib.Core.Bool.{Bool, true, false}
+use mathlib.Core.Bool.{false}
 use mathlib.Core.List.{List, [], _∷_, _++_}
 use mathlib.Core.Option.{Option, none, some}
 use mathlib.Core.Path.{_≡_}
@@ -163,10 +163,26 @@ module _ {X : Type 0} (S : System X) (o : Opening) (close : Report) (qs : List C
     -- "With c = d, equal bytes and equal error, all their answers are equal"
     pub same : c ≡ d → a .incoming ≡ b .incoming → a .host .end ≡ b .host .end → answersOf logA ≡ answersOf logB
 
--- The claim: any banner, any table that loading accepts, any close report, any list of calls, any capacities 8 ≤ c ≤ d, any two sides, B's incoming bytes
--- beginning with A's.
-abbrev pub Claim : {X : Type 0} → System X → Type 0
-Claim {X} S =
+-- ---- how many bytes come, and how many the plain reader writes: nothing is asked of them, or that each stays below a limit (document 02, [7]:
+-- "Sessions compared, with each other or with anything else .. are ones whose totals stay below that")
+
+abbrev pub Bound : Type 1
+Bound = (coming writing : ℕ) → Type 0
+
+abbrev pub unbounded : Bound
+unbounded coming writing = Unit {0}
+
+abbrev pub below : ℕ → Bound
+below limit coming writing = (coming < limit) × (writing < limit)
+
+abbrev pub Within : Bound → Config → List Call → (incoming : List ℕ) → Type 0
+Within W g qs incoming = W (length incoming) (length (plainWrites g qs))
+
+-- The claim: any banner, any table that loading accepts, any close report, any list of calls, any capacities 8 ≤ c ≤ d, any two sides within the bound, B's
+-- incoming bytes beginning with A's.
+abbrev pub Claim : {X : Type 0} → Bound → System X → Type 0
+Claim {X} W S =
     (o : Opening) (close : Report) (qs : List Call) (c d : ℕ) → 8 ≤ c → c ≤ d → CodedReport close → AllWide qs
     → (a : Side S c close) (b : Side S d close) (more : List ℕ) → b .incoming ≡ a .incoming ++ more
+    → Within W (reader o c close) qs (a .incoming) → Within W (reader o d close) qs (b .incoming)
     → Demand3 S o close qs c d a b

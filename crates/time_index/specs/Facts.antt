@@ -49,6 +49,7 @@ offers =
     ∷ row (offered (A.stat2 (stat2 0 (pos 222)))) nothing
     ∷ row (offered (A.chunk (ascii "x"))) nothing
     ∷ row (offered (A.refused 3)) nothing
+    ∷ row (offered (A.refused 21)) nothing
     ∷ row (offered (A.missing 2)) nothing
     ∷ row (offered (A.broken A.closed)) nothing
     ∷ row (offered (A.broken (A.error 5))) nothing

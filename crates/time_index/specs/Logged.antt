@@ -7,14 +7,13 @@ use lib.ListN.{length}
 use Rattle.protocol.specs.Answers.{Answer}
 use Rattle.protocol.specs.Calls.{Call}
 use Rattle.protocol.specs.Reader.{Report, plainAnswers}
-use Rattle.boundary.specs.Boundary.{boundary}
-use Rattle.session.specs.Demand3.{Opening, Side, AllWide, CodedReport, reader, logFrom, answersOf}
+use Rattle.session.specs.Demand3.{Opening, System, Bound, Within, Side, AllWide, CodedReport, reader, logFrom, answersOf}
 use Rattle.time_index.specs.Index.{heldAfter, answeredTo}
 use Rattle.time_index.specs.Slots.{slotsSize}
 use Rattle.time_index.specs.Crossing.{crossIndexOpen}
 use Rattle.time_index.specs.Claim.{Tell, Hears, AllKnown, afterwards, numbersOf, Holding}
 
-module _ (o : Opening) (close : Report) (qs : List Call) (c : ℕ) (a : Side boundary c close) where
+module _ {X : Type 0} (S : System X) (o : Opening) (close : Report) (qs : List Call) (c : ℕ) (a : Side S c close) where
   -- what the plain reader answers to the calls
   abbrev pub plainly : List Answer
   plainly = plainAnswers (reader o c close) (a .host .end) qs (a .incoming)
@@ -27,9 +26,10 @@ module _ (o : Opening) (close : Report) (qs : List Call) (c : ℕ) (a : Side bou
     pub holds : Holding area (heldAfter (length area) [] plainly)
         (afterwards (crossIndexOpen s (length area) .0) area ts .0) (afterwards (crossIndexOpen s (length area) .0) area ts .1)
 
--- any list of calls, however the cable cuts the bytes
-abbrev pub LoggedClaim : Type 0
-LoggedClaim =
-    (o : Opening) (close : Report) (qs : List Call) (c : ℕ) → 8 ≤ c → CodedReport close → AllWide qs → (a : Side boundary c close)
+-- any list of calls within the bound, however the cable cuts the bytes
+abbrev pub LoggedClaim : {X : Type 0} → Bound → System X → Type 0
+LoggedClaim W S =
+    (o : Opening) (close : Report) (qs : List Call) (c : ℕ) → 8 ≤ c → CodedReport close → AllWide qs → (a : Side S c close)
+    → Within W (reader o c close) qs (a .incoming)
     → (s area : List ℕ) → length s ≡ slotsSize → length area < 2 ^ 63
-    → (ts : List Tell) → Hears ts (answersOf (logFrom boundary o qs a)) → Indexes o close qs c a s area ts
+    → (ts : List Tell) → Hears ts (answersOf (logFrom S o qs a)) → Indexes S o close qs c a s area ts

@@ -1,5 +1,6 @@
 //! A list of calls made on both sides, compared call by call.
 use crate::call::{Answer, Call, Entry, What};
+use crate::counted;
 use crate::held;
 use crate::hex::hex;
 use crate::intended;
@@ -26,6 +27,8 @@ pub struct Tally {
     pub answers: [usize; 18],
     pub reads: usize,
     pub pieces: usize,
+    /// how often the totals were held to the channel's counts
+    pub counted: usize,
 }
 
 impl Tally {
@@ -56,14 +59,16 @@ pub fn compare(list: &List, tally: &mut Tally) -> Result<(), String> {
     let host = ours::Host::open(&list.banner, list.rx.clone(), our_wire.clone()).map_err(|n| format!("opening was answered {n}"))?;
     our_wire.borrow_mut().receives_at(host.rx.as_ptr() as usize);
     let rng = Rng::new(list.seed ^ 0x6d69_7375_7365);
-    let mut pair = Pair { list, session, watched: &watched, their_wire, host, our_wire, consumed: 0, rng };
+    let mut pair = Pair { list, session, watched: &watched, their_wire, host, our_wire, consumed: 0, held: 0, rng };
+    pair.counted(tally)?;
     for (i, call) in list.calls.iter().enumerate() {
-        pair.call(call, tally).map_err(|text| format!("call {i} ({call}):\n  {text}"))?;
+        let made = pair.call(call, tally).and_then(|()| pair.counted(tally));
+        made.map_err(|text| format!("call {i} ({call}):\n  {text}"))?;
     }
     Ok(())
 }
 
-/// Both sessions, and what both have consumed so far.
+/// Both sessions, what both have consumed so far, and what both hold.
 struct Pair<'l, 's> {
     list: &'l List,
     session: Option<SyncSession<'s, 's, theirs::Host<Shared<'l>>>>,
@@ -72,10 +77,17 @@ struct Pair<'l, 's> {
     host: ours::Host<Shared<'l>>,
     our_wire: Shared<'l>,
     consumed: usize,
+    held: usize,
     rng: Rng,
 }
 
 impl Pair<'_, '_> {
+    // the totals of this library, beside the counts of its channel
+    fn counted(&self, tally: &mut Tally) -> Result<(), String> {
+        tally.counted += 1;
+        counted::check(&self.host, &self.our_wire, self.session.is_some().then_some(self.held))
+    }
+
     fn call(&mut self, call: &Call, tally: &mut Tally) -> Result<(), String> {
         tally.calls += 1;
         let ended = self.session.is_none();
@@ -109,7 +121,11 @@ impl Pair<'_, '_> {
         let made = steps::make(host, call, &mut |host, step, lent, a, b| {
             host.step_with(step, lent, a, b, |host, reply| {
                 if list.misuses && rng.chance(20) {
-                    let waits = if reply == 1 { Waits::Read { window: host.at(1) as usize } } else { Waits::Write };
+                    let waits = match reply {
+                        1 => Waits::Read { window: host.at(1) as usize },
+                        5 => Waits::Close,
+                        _ => Waits::Write,
+                    };
                     match misuse::try_one(host, waits, lent, rng) {
                         Ok(number) => misused(number, tally),
                         Err(text) => wrong = Some(text),
@@ -127,7 +143,7 @@ impl Pair<'_, '_> {
             let theirs = held::by_theirs(session, self.watched, &self.their_wire);
             let ours = held::by_ours(&self.host, &self.our_wire);
             unless(theirs == ours, || format!("000 holds {theirs} bytes, this {ours}"))?;
-            self.consumed = self.our_wire.borrow().at - theirs;
+            (self.consumed, self.held) = (self.our_wire.borrow().at - theirs, theirs);
         }
         let consumed = &self.list.incoming[..self.consumed];
         let (entries, next) = entries_in(call, &consumed[from..]);
@@ -162,8 +178,10 @@ impl Pair<'_, '_> {
 }
 
 fn misused(number: u32, tally: &mut Tally) {
-    if number > 0 {
-        tally.document("misuse that 000's types rule out: 3, 4, 5, 6, 11");
+    match number {
+        0 => {}
+        counted::OVERFLOW => tally.document("a total without room, where 000 has no totals: 21"),
+        _ => tally.document("misuse that 000's types rule out: 3, 4, 5, 6, 11"),
     }
 }
 

@@ -1,6 +1,7 @@
 //! The intended differences of docs/DIFFERENCES.md, each run with its bytes on both sides.
 use crate::beside::{compare, Tally};
 use crate::call::{Answer, Call, What, Why};
+use crate::counted::{fill, OVERFLOW};
 use crate::error::Error;
 use crate::hex::{hex, spaced};
 use crate::intended::{aside, PATH_MOST};
@@ -19,7 +20,7 @@ pub fn print() -> bool {
     let shown = [
         small_buffers(), long_path(), long_path_with_flags(), long_path_without_feature(), unknown_flag(),
         unknown_flag_to_push(), unknown_flag_without_feature(), entries_then_fail(), chunk_then_fail(), after_quit(), read_of_nothing(),
-        read_beyond(), while_pending(),
+        read_beyond(), while_pending(), no_room(),
     ];
     let wrong = shown.iter().filter(|well| !**well).count();
     println!("{} differences run, {wrong} not as stated", shown.len());
@@ -184,4 +185,17 @@ fn while_pending() -> bool {
     let what = "while a read is awaited: a call, an accepted write, a buffer of another length";
     let theirs = "a call borrows the session to its end: there is no such call or report";
     say(what, format!("{told:?}"), theirs.into(), told[..3] == [4, 5, 3])
+}
+
+// a session that has come so far that a total has no room for another byte
+fn no_room() -> bool {
+    let incoming = b"DATA\x01\0\0\0x";
+    let mut host = ours::Host::open(b"", vec![0; 16], Miscounts { first: None, incoming }).unwrap();
+    fill(&mut host.rec);
+    let read = host.step(Step::RecvNext, b"", 0, 0);
+    let mut host = ours::Host::open(b"", vec![0; 16], Miscounts { first: None, incoming }).unwrap();
+    fill(&mut host.rec);
+    let written = host.step(Step::Recv, b"/a", 0, 0);
+    let (what, theirs) = ("a read, and a write, where 2^64 - 1 bytes were counted", "keeps no totals: it reads and writes on");
+    say(what, format!("{:?}", (read, written)), theirs.into(), (read, written) == (OVERFLOW, OVERFLOW))
 }

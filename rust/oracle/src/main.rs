@@ -9,6 +9,7 @@ beside_000! {
     mod bench;
     mod beside;
     mod call;
+    mod counted;
     mod differences;
     mod gen;
     mod held;

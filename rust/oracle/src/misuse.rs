@@ -1,4 +1,6 @@
-//! Misuse of our functions that 000's types do not let a host commit: each is answered by its number, and alters nothing.
+//! Misuse of our functions that 000's types do not let a host commit, and reports that a total has no room for: each is answered by its
+//! number, and alters nothing.
+use crate::counted::{fill, OVERFLOW};
 use crate::ours::Host;
 use crate::rng::Rng;
 use yuglasno::raw;
@@ -9,6 +11,7 @@ pub enum Waits {
     Nothing,
     Read { window: usize },
     Write,
+    Close,
     Ended,
 }
 
@@ -57,9 +60,19 @@ fn untimely(waits: Waits, which: usize, number: &mut usize, rng: &mut Rng) -> Op
             11
         }
         (Waits::Read { .. }, 2) => 5,
-        (Waits::Write, 1) => 5,
+        (Waits::Write | Waits::Close, 1) => 5,
         _ => return None,
     })
+}
+
+// a report that is awaited, where no total has room for a byte; a close and a fault have none to count
+fn too_much(waits: Waits, which: usize, number: &mut usize, rng: &mut Rng) -> Option<u32> {
+    match (waits, which) {
+        (Waits::Read { window }, 1) => *number = 1 + rng.below(window),
+        (Waits::Write, 2) => {}
+        _ => return None,
+    }
+    Some(OVERFLOW)
 }
 
 /// One misuse, chosen at random. Gives document 01's number that it was answered with.
@@ -68,6 +81,10 @@ pub fn try_one<W>(host: &Host<W>, waits: Waits, lent: &[u8], rng: &mut Rng) -> R
     let mut lent = lent.to_vec();
     let which = rng.below(4);
     let mut number = rng.below(18);
+    let full = rng.chance(40);
+    if full {
+        fill(&mut copy.rec);
+    }
     let expected = match rng.below(5) {
         0 => {
             let slices = [&mut copy.rec, &mut copy.rx, &mut copy.msg];
@@ -78,10 +95,14 @@ pub fn try_one<W>(host: &Host<W>, waits: Waits, lent: &[u8], rng: &mut Rng) -> R
             copy.out.truncate(rng.below(raw::REPLY));
             3
         }
-        2 if which > 0 && matches!(waits, Waits::Read { .. } | Waits::Write) => {
+        2 if which > 0 && matches!(waits, Waits::Read { .. } | Waits::Write | Waits::Close) => {
             bent(&mut lent, rng);
             3
         }
+        3 if full => match too_much(waits, which, &mut number, rng).or_else(|| untimely(waits, which, &mut number, rng)) {
+            Some(expected) => expected,
+            None => return Ok(0),
+        },
         _ => match untimely(waits, which, &mut number, rng) {
             Some(expected) => expected,
             None => return Ok(0),

@@ -1,7 +1,7 @@
 //! Our session on a scripted channel, through the library's functions.
 use crate::wire::{Fault, Wire};
 use std::ops::Range;
-use yuglasno::{raw, Settings};
+use yuglasno::{raw, Settings, Totals};
 
 /// The steps by their numbers at the boundary.
 #[derive(Clone, Copy, Debug, PartialEq, Eq)]
@@ -35,6 +35,10 @@ impl<W: Wire> Host<W> {
             0 => Ok(host),
             number => Err(number),
         }
+    }
+
+    pub fn totals(&self) -> Totals {
+        raw::totals(&self.rec)
     }
 
     /// The i-th number of the last reply.

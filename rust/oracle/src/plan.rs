@@ -12,12 +12,15 @@ pub enum Cuts {
     Of(usize),
     /// any number up to this one, by the seed and the number of the read
     UpTo(usize, u64),
+    /// these one after the other, and the last of them from then on
+    Each(Vec<usize>),
 }
 
 impl Cuts {
     pub fn at(&self, read: usize) -> usize {
         match self {
             Cuts::Of(n) => *n,
+            Cuts::Each(counts) => counts[read.min(counts.len() - 1)],
             Cuts::UpTo(n, seed) => 1 + (mixed(*seed, read as u64) % *n as u64) as usize,
         }
     }

@@ -1,5 +1,9 @@
-//! Replays a stored sample of 000's answers (record.rs says its form) on this library. Needs no source of 000.
-use yuglasno::{raw, Settings};
+//! Replays a stored sample of 000's answers (record.rs says its form) on this library, and holds its totals to the sample's reads, writes and
+//! held bytes. Needs no source of 000.
+use yuglasno::{raw, Settings, Totals};
+
+/// The number of a quit at the boundary.
+const QUIT: u32 = 11;
 
 /// A record's bytes, read from the front.
 struct Fields<'a>(&'a [u8]);
@@ -43,6 +47,10 @@ struct Replay {
     out: Vec<u8>,
     lent: Vec<u8>,
     reply: u32,
+    // bytes that came, and bytes of the writes that were accepted
+    gave: u64,
+    took: u64,
+    quit: bool,
 }
 
 impl Replay {
@@ -73,6 +81,7 @@ impl Replay {
         }
         let bytes = f.bytes();
         self.rx[start..start + bytes.len()].copy_from_slice(&bytes);
+        self.gave += bytes.len() as u64;
         let Replay { rec, rx, msg, out, lent, .. } = self;
         self.reply = raw::read(rec, rx, msg, lent, bytes.len(), out);
         asked
@@ -87,7 +96,17 @@ impl Replay {
                 _ => self.out[8..][..self.at(0) as usize] == piece,
             };
         self.report(kind, f);
+        if kind == 0 {
+            self.took += piece.len() as u64;
+        }
         asked
+    }
+
+    // behind a quit the sample has no count of held bytes
+    fn counted(&self, held: u64) -> bool {
+        let totals = raw::totals(self.rec.as_slice().try_into().expect("a whole record"));
+        let held = if self.quit { totals.held() } else { held };
+        totals == Totals { received: self.gave, consumed: self.gave - held, written: self.took }
     }
 
     fn told(&self, f: &mut Fields) -> bool {
@@ -106,11 +125,13 @@ impl Replay {
                 let (capacity, banner, fill) = (f.n4() as usize, f.bytes(), f.n1());
                 (self.rec, self.out) = (vec![0; raw::RECORD], vec![0; raw::REPLY]);
                 (self.rx, self.msg) = (vec![fill; capacity], vec![fill; capacity]);
+                (self.gave, self.took, self.quit) = (0, 0, false);
                 raw::open(&mut self.rec, Settings::published().as_bytes(), &banner, capacity, capacity) == 0
             }
             2 => {
                 let (number, a, b) = (f.n1() as u32, f.n4(), f.n4());
                 self.lent = f.bytes();
+                self.quit |= number == QUIT;
                 let Replay { rec, rx, msg, out, lent, .. } = self;
                 self.reply = raw::start(rec, rx, msg, lent, number, a, b, out);
                 true
@@ -125,8 +146,8 @@ impl Replay {
             }
             6 => self.told(f),
             7 => {
-                f.n4();
-                self.rx == f.bytes()
+                let held = f.n4();
+                self.counted(held.into()) && self.rx == f.bytes()
             }
             other => panic!("no such record: {other}"),
         }
@@ -147,6 +168,6 @@ pub fn run(path: &str) -> bool {
             return false;
         }
     }
-    println!("{lists} recorded lists, {steps} steps: all as 000 answered");
+    println!("{lists} recorded lists, {steps} steps: all as 000 answered, and the totals what came and went");
     true
 }

@@ -27,6 +27,8 @@ pub struct Scripted<'l> {
     list: &'l List,
     /// bytes delivered so far
     pub at: usize,
+    /// bytes of the writes that were accepted
+    pub took: usize,
     reads: usize,
     writes: usize,
     /// addresses of the receive buffer, of the lent path and of the lent data
@@ -41,7 +43,7 @@ pub struct Scripted<'l> {
 
 impl<'l> Scripted<'l> {
     pub fn new(list: &'l List) -> Self {
-        Scripted { list, at: 0, reads: 0, writes: 0, rx: 0..0, path: 0..0, data: 0..0, ops: vec![], looking: false }
+        Scripted { list, at: 0, took: 0, reads: 0, writes: 0, rx: 0..0, path: 0..0, data: 0..0, ops: vec![], looking: false }
     }
 
     /// Says where the receive buffer is.
@@ -109,6 +111,9 @@ impl Wire for Scripted<'_> {
             _ => Ok(()),
         };
         self.writes += !self.looking as usize;
+        if report.is_ok() && !self.looking {
+            self.took += piece.len();
+        }
         self.ops.push(Op::Write { place: self.place(piece), piece: piece.to_vec(), report });
         report
     }

@@ -2,16 +2,20 @@
 //! sides and held to what the documents say.
 use crate::beside::{compare, Tally};
 use crate::call::{Answer, Call, What, Why};
+use crate::counted;
 use crate::intended::{silent, NAMES, PATH_MOST};
 use crate::ours;
 use crate::plan::List;
 use crate::scripted::{shared, Op};
 use crate::steps;
+use yuglasno::Totals;
 
-/// What a call of this library answers, and the pieces that it writes.
+/// What a call of this library answers, the pieces that it writes, how many reads it asks for, and the totals behind it.
 pub struct Seen {
     pub answer: Answer,
     pub pieces: Vec<Vec<u8>>,
+    pub reads: usize,
+    pub totals: Totals,
 }
 
 /// Makes the calls of a list on this library alone.
@@ -21,8 +25,9 @@ pub fn seen(list: &List) -> Vec<Seen> {
     let make = |call: &Call| {
         let answer = steps::make(&mut host, call, &mut |host, step, lent, a, b| host.step(step, lent, a, b)).answer;
         let ops = wire.borrow_mut().take_ops();
+        let reads = ops.iter().filter(|op| matches!(op, Op::Read { .. })).count();
         let piece = |op| if let Op::Write { piece, .. } = op { Some(piece) } else { None };
-        Seen { answer, pieces: ops.into_iter().filter_map(piece).collect() }
+        Seen { answer, pieces: ops.into_iter().filter_map(piece).collect(), reads, totals: host.totals() }
     };
     list.calls.iter().map(make).collect()
 }
@@ -33,25 +38,34 @@ pub fn list(banner: &str, capacity: usize, incoming: &[u8], calls: Vec<Call>) ->
 
 const V2: &str = "features=stat_v2,ls_v2,sendrecv_v2,sendrecv_v2_brotli,sendrecv_v2_lz4,sendrecv_v2_zstd,sendrecv_v2_dry_run_send";
 
-struct Trials {
+pub struct Trials {
     shown: usize,
     wrong: usize,
 }
 
 impl Trials {
     // both sides are equal on the list, and what this library does is as `expected` says
-    fn show(&mut self, name: &str, list: &List, expected: impl Fn(&[Seen]) -> bool) {
+    pub fn show(&mut self, name: &str, list: &List, expected: impl Fn(&[Seen]) -> bool) {
         let verdict = match compare(list, &mut Tally::default()) {
             Err(text) => Err(text),
             Ok(()) if expected(&seen(list)) => Ok(()),
             Ok(()) => Err("both sides are equal, and not as the documents say".to_string()),
         };
+        self.note(name, verdict.map_err(|text| format!("{list}{text}")));
+    }
+
+    /// What 000 has nothing of.
+    pub fn holds(&mut self, name: &str, as_said: bool) {
+        self.note(name, as_said.then_some(()).ok_or_else(|| "not as the documents say".to_string()));
+    }
+
+    fn note(&mut self, name: &str, verdict: Result<(), String>) {
         self.shown += 1;
         match verdict {
             Ok(()) => println!("{name}: equal"),
             Err(text) => {
                 self.wrong += 1;
-                println!("{name}: WRONG\n{list}{text}");
+                println!("{name}: WRONG\n{text}");
             }
         }
     }
@@ -199,6 +213,7 @@ pub fn run() -> bool {
     nuls(&mut trials);
     banners(&mut trials);
     data(&mut trials);
+    counted::trials(&mut trials);
     println!("{} checks of trial pieces, {} wrong", trials.shown, trials.wrong);
     trials.wrong == 0
 }

@@ -23,6 +23,8 @@
 //!
 //! The panel's side is there too: [`Call::heard`] reads a host's request, [`PanelReply`] writes a reply, and [`panel`] serves jobs by both.
 //!
+//! [`Session::totals`] says how many bytes a session has received, consumed and written.
+//!
 //! What a call comes to has a number: see [`Error`]. A chunk and a name are parts of the receive buffer, lent until the
 //! session's next call; the session allocates nothing but the copy of a FAIL's text that its error keeps.
 //!
@@ -47,6 +49,7 @@ mod session;
 mod settings;
 mod shown;
 mod speak;
+mod totals;
 mod transfers;
 
 #[cfg(unix)]
@@ -73,6 +76,7 @@ pub use session::{Session, Step};
 pub use settings::{Settings, IDS_MOST};
 pub use shown::Shown;
 pub use speak::PanelReply;
+pub use totals::Totals;
 pub use transfers::Failure;
 
 /// README's program, compiled and run as a test.

@@ -1,13 +1,13 @@
 //! The meanings of the answers' numbers, in a line each: one table, for whoever shows it.
 
-/// Every number that an answer has, with its meaning: 0 to 17 of a session, 18 of the reader of
+/// Every number that an answer has, with its meaning: 0 to 17 and 21 of a session, 18 of the reader of
 /// requests, 19 of an index, 20 of the writer of replies, 22 and 23 of a table of ids.
 ///
 /// ```
 /// let (number, text) = yuglasno::MEANINGS[12];
 /// assert_eq!((number, text), (12, "the channel is closed"));
 /// ```
-pub const MEANINGS: [(u32, &str); 23] = [
+pub const MEANINGS: [(u32, &str); 24] = [
     (0, "done"),
     (1, "the receive buffer is under 8 bytes"),
     (2, "the message buffer is shorter than the receive buffer"),
@@ -29,6 +29,7 @@ pub const MEANINGS: [(u32, &str); 23] = [
     (18, "the bytes are no request of a host"),
     (19, "the index has no room for an entry; it is as it was before that entry"),
     (20, "the reply does not fit: the buffer can't hold it, its data is over 65,536 bytes, or its name or text has 2^32 bytes or more; nothing is written"),
+    (21, "a read or a write would take a total of bytes past 2^64 - 1; it is not counted, and the session still waits"),
     (22, "a file, or the settings of an opening, is no table of ids; the old table stays"),
     (23, "two ids of the table are equal; the old table stays"),
 ];
@@ -37,7 +38,7 @@ pub const MEANINGS: [(u32, &str); 23] = [
 ///
 /// ```
 /// assert_eq!(yuglasno::meaning(8), Some("a NUL in the path"));
-/// assert_eq!(yuglasno::meaning(21), None);
+/// assert_eq!(yuglasno::meaning(24), None);
 /// ```
 pub fn meaning(number: u32) -> Option<&'static str> {
     MEANINGS.iter().find(|(each, _)| *each == number).map(|(_, text)| *text)

@@ -2,6 +2,7 @@
 //!
 //! A slice crosses as its address and its length. The library keeps no pointer: it reads and writes within the
 //! slices that a call lends it, and only until the call returns. Each function answers every input.
+use crate::totals::Totals;
 
 #[allow(unsafe_code)]
 mod linked {
@@ -53,7 +54,7 @@ mod linked {
 }
 
 /// The length of a record.
-pub const RECORD: usize = 256;
+pub const RECORD: usize = 288;
 /// The length of settings.
 pub const SETTINGS: usize = 128;
 /// The length of a slice that takes any reply.
@@ -65,8 +66,19 @@ pub const SLOTS: usize = 65568;
 /// the tail. 0 where no read is asked for.
 #[inline]
 pub fn wanted(rec: &[u8; RECORD]) -> usize {
-    let number = |i: usize| u64::from_le_bytes(rec[8 * i..8 * i + 8].try_into().expect("eight bytes"));
+    let number = |i: usize| number(rec, i);
     number(9).saturating_sub(number(3)) as usize
+}
+
+/// The totals of the session in a record, which a host may read between any two calls: the record's numbers 32 to 34.
+pub fn totals(rec: &[u8; RECORD]) -> Totals {
+    Totals { received: number(rec, 32), consumed: number(rec, 33), written: number(rec, 34) }
+}
+
+/// The `i`-th number of a record.
+#[inline]
+fn number(rec: &[u8; RECORD], i: usize) -> u64 {
+    u64::from_le_bytes(rec[8 * i..8 * i + 8].try_into().expect("eight bytes"))
 }
 
 /// Makes `settings` the published ones: 0, or 3 for another length than [`SETTINGS`].

@@ -46,6 +46,14 @@ impl Bytes {
     }
 }
 
+/// The answer to a report that a total has no room for.
+pub(crate) const OVERFLOW: u32 = 21;
+
+/// Whether an answer changes nothing: what was asked for still is.
+pub(crate) fn refused(number: u32) -> bool {
+    matches!(number, 1..=11 | OVERFLOW)
+}
+
 /// The `i`-th number of a reply.
 pub(crate) fn word(out: &[u8; REPLY], i: usize) -> u64 {
     u64::from_le_bytes(out[8 * i..8 * i + 8].try_into().expect("eight bytes"))

@@ -30,10 +30,15 @@ impl<R: AsMut<[u8]>, M: AsMut<[u8]>> Session<R, M> {
         self.outcome(ended)
     }
 
-    /// Goes on with a call that is pending: after an 11, or one that was started by steps. 5 where none is.
+    /// Goes on with a call that is pending: after an 11, or one that was started by steps. 5 where none is. After a 21 the link is
+    /// not asked: what it read or wrote is reported again, so that no byte is read over another, and none written twice.
     pub fn resume(&mut self, link: &mut (impl Link + ?Sized), call: &Call<'_>) -> Result<Answer<'_>, Error> {
-        let ended = match self.waits_for() {
-            Some(ask) => self.drive(link, call, Reply::Ask(ask)),
+        let reply = match (self.uncounted(), self.waits_for()) {
+            (Some(report), _) => Some(self.tell(call, report)),
+            (None, ask) => ask.map(Reply::Ask),
+        };
+        let ended = match reply {
+            Some(reply) => self.drive(link, call, reply),
             None => Ended { number: 5, fault: None },
         };
         self.outcome(ended)

@@ -3,8 +3,9 @@ use crate::answer::{answer, Answer};
 use crate::call::{Call, Report};
 use crate::error::Error;
 use crate::raw::{self, RECORD, REPLY};
-use crate::reply::{heard, part, Ask, Reply};
+use crate::reply::{heard, part, refused, Ask, Reply, OVERFLOW};
 use crate::settings::Settings;
+use crate::totals::Totals;
 use std::{fmt, io};
 
 /// A session, over a receive buffer `R` and a message buffer `M` that it owns (`Vec<u8>`, `[u8; N]`) or borrows
@@ -19,6 +20,8 @@ pub struct Session<R, M = R> {
     /// The number that came with the reply.
     told: u32,
     asked: Option<Ask>,
+    /// A report of what is asked that was answered 21: it was read or written, and is not counted.
+    uncounted: Option<Report>,
     rx: R,
     msg: M,
 }
@@ -55,7 +58,7 @@ impl<R: AsMut<[u8]>, M: AsMut<[u8]>> Session<R, M> {
     pub fn open_with(settings: &Settings, banner: &[u8], mut rx: R, mut msg: M) -> Result<Self, Error> {
         let mut record = [0; RECORD];
         match raw::open(&mut record, settings.as_bytes(), banner, rx.as_mut().len(), msg.as_mut().len()) {
-            0 => Ok(Self { record, reply: [0; REPLY], told: 0, asked: None, rx, msg }),
+            0 => Ok(Self { record, reply: [0; REPLY], told: 0, asked: None, uncounted: None, rx, msg }),
             number => Err(settings.refused(number)),
         }
     }
@@ -85,7 +88,7 @@ impl<R: AsMut<[u8]>, M: AsMut<[u8]>> Session<R, M> {
     }
 
     /// Reports what became of the last step, and takes the next one. `call` is the pending one, with the same path or
-    /// data. A refused report (3, 5, 6 or 11) changes nothing: the session still waits.
+    /// data. A refused report (3, 5, 6, 11 or 21) changes nothing: the session still waits.
     pub fn report<'a>(&'a mut self, call: &Call<'a>, report: Report) -> Step<'a> {
         let reply = self.tell(call, report);
         self.step(call, reply)
@@ -97,9 +100,35 @@ impl<R: AsMut<[u8]>, M: AsMut<[u8]>> Session<R, M> {
         Some(self.step(call, Reply::Ask(ask)))
     }
 
+    /// How many bytes the session has received, consumed and written since it was opened: at any time, also while a call is
+    /// pending and once the session has ended.
+    ///
+    /// ```
+    /// use yuglasno::{Call, Report, Session, Step, Totals};
+    ///
+    /// let mut session = Session::open(b"", [0; 64], [0; 64]).unwrap();
+    /// let call = Call::Stat(b"/a");
+    /// assert!(matches!(session.start(&call), Step::Write(piece) if piece.len() == 10));
+    /// let Step::Read(window) = session.report(&call, Report::Done) else { panic!() };
+    /// window[..3].copy_from_slice(b"STA");
+    /// let Step::Read(window) = session.report(&call, Report::Read(3)) else { panic!() };
+    /// window[..13].copy_from_slice(b"T\xA4\x81\0\0\xCE\x07\0\0\x05\0\0\0");
+    /// assert_eq!(session.totals(), Totals { received: 3, consumed: 0, written: 10 });
+    /// assert!(matches!(session.report(&call, Report::Read(13)), Step::Told(Ok(_))));
+    /// assert_eq!(session.totals().to_string(), "16 bytes received, 16 consumed, 10 written");
+    /// ```
+    pub fn totals(&self) -> Totals {
+        raw::totals(&self.record)
+    }
+
     /// What the pending call waits for, its parts unborrowed.
     pub(crate) fn waits_for(&self) -> Option<Ask> {
         self.asked
+    }
+
+    /// The report that was answered 21 and may be made again.
+    pub(crate) fn uncounted(&self) -> Option<Report> {
+        self.uncounted
     }
 
     pub(crate) fn begin(&mut self, call: &Call<'_>) -> Reply {
@@ -118,18 +147,22 @@ impl<R: AsMut<[u8]>, M: AsMut<[u8]>> Session<R, M> {
             Report::Closed => raw::fault(rec, rx, msg, lent, 0, 0, out),
             Report::Error(code) => raw::fault(rec, rx, msg, lent, 1, code, out),
         };
-        self.noted(told)
+        let reply = self.noted(told);
+        if matches!(reply, Reply::Told(OVERFLOW)) {
+            self.uncounted = Some(report);
+        }
+        reply
     }
 
     /// Reads a reply, and keeps what is asked. A refusal leaves that as it was.
     fn noted(&mut self, told: u32) -> Reply {
         self.told = told;
         let reply = heard(told, &self.reply);
-        match reply {
-            Reply::Ask(ask) => self.asked = Some(ask),
-            Reply::Told(1..=11) => {}
-            Reply::Told(_) => self.asked = None,
-        }
+        (self.asked, self.uncounted) = match reply {
+            Reply::Told(number) if refused(number) => (self.asked, self.uncounted),
+            Reply::Told(_) => (None, None),
+            Reply::Ask(ask) => (Some(ask), None),
+        };
         reply
     }
 
@@ -175,6 +208,7 @@ impl<R: AsMut<[u8]>, M: AsMut<[u8]>> Session<R, M> {
         match number {
             0 => Ok(answer(&self.reply, &self.rx.as_mut()[part(&self.reply, 1).range()])),
             14 => Err(Error::told(number, &self.reply, &self.msg.as_mut()[part(&self.reply, 1).range()], fault)),
+            OVERFLOW => Err(Error::Overflow(self.totals())),
             _ => Err(Error::told(number, &self.reply, &[], fault)),
         }
     }
@@ -185,3 +219,6 @@ impl<R, M> fmt::Debug for Session<R, M> {
         f.debug_struct("Session").field("asked", &self.asked).finish_non_exhaustive()
     }
 }
+
+#[cfg(test)]
+mod overflow;

@@ -54,7 +54,7 @@ goes c =
       lt-ltb 0 (length (nextPart rec (now (a .lent)))) (omega (arith, n, c .before .before .before .before .before .before .before .before .before .before .before .before .before .if2 .left)),
       ap (λ k. hasRoom rec (length (now (a .rx))) k) (sym n) ∙ sym (c .before .before .before .before .before .before .before .before .before .before .before .has-room .ensures) ∙ c .before .before .before .before .before .before .before .before .before .before .if3 .left,
     ))
-    (c .before .before .before .before .before .before .before .before .before .before .before .before .before .before .before .before .before .before .before .before .before .before .before .before .pre .0) refl refl refl (c .before .before .store-push .ensures ∙ rw (c .before .before .before .before .before .before .before .before .before .before .before .before .before .before .before .next .ensures)) (c .before .before .before .before .before .before .put-piece .ensures ∙ rw (c .before .before .before .before .before .before .before .before .id-in .ensures, n))
+    (c .before .before .before .before .before .before .before .before .before .before .before .before .before .before .before .before .before .before .before .before .before .before .before .before .pre .0) refl refl refl (c .before .before .store-push .ensures ∙ rw (c .before .before .before .before .before .before .before .before .before .before .before .before .before .before .before .next .ensures)) (c .before .before .before .before .before .before .put-header-piece .ensures ∙ rw (c .before .before .before .before .before .before .before .before .id-in .ensures, n))
 
 moved : tie.Need-returns-4
 moved c =

@@ -1,5 +1,6 @@
 //! One crossing of the boundary: the slices lent, the function called, and what must hold of it whatever they were.
 use crate::lent::Lent;
+use crate::totals::OVERFLOW;
 use yuglasno::raw::{self, RECORD, REPLY};
 
 #[derive(Clone, Copy, Debug)]
@@ -31,6 +32,12 @@ impl Slices {
         }
     }
 
+    /// Whether record, buffers and reply have the same bytes.
+    pub fn same(&self, other: &Self) -> bool {
+        let pairs = [(&self.rec, &other.rec), (&self.rx, &other.rx), (&self.msg, &other.msg), (&self.out, &other.out)];
+        pairs.into_iter().all(|(one, two)| one.bytes() == two.bytes())
+    }
+
     /// The `i`-th number of the reply.
     pub fn word(&self, i: usize) -> u64 {
         u64::from_le_bytes(self.out.bytes()[8 * i..8 * i + 8].try_into().expect("eight bytes"))
@@ -44,7 +51,7 @@ impl Slices {
 
 /// Whether an answer is the caller's: nothing may have changed.
 pub fn refused(number: u32) -> bool {
-    number & 255 == 0 && (1..=11).contains(&(number >> 8))
+    number & 255 == 0 && matches!(number >> 8, 1..=11 | OVERFLOW)
 }
 
 /// What a crossing broke, if anything: `before` and `after` are the slices around it, `number` what was returned.
@@ -105,7 +112,7 @@ fn written(s: &Slices, number: u32) -> Option<usize> {
         (0, 0, 4) => (true, 48),
         (0, 0, 5) => (true, 112),
         (0, 0, 6) => (true, 24),
-        (0, 3..=9 | 11 | 12 | 17, 7) => (s.word(1) == 0 && s.word(2) == 0, 24),
+        (0, 3..=9 | 11 | 12 | 17 | OVERFLOW, 7) => (s.word(1) == 0 && s.word(2) == 0, 24),
         (0, 10, 7) => ((1..=7).contains(&s.word(3)), 32),
         (0, 13 | 15 | 16, 7) => (small(3), 32),
         (0, 14, 7) => (s.word(1) == 0, 24),

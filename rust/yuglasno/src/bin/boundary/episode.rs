@@ -6,7 +6,8 @@ use crate::opening::opened;
 use crate::panel_side;
 use crate::random::Random;
 use crate::stream::reply;
-use crate::Counts;
+use crate::totals::{self, Expected, OVERFLOW};
+use crate::{Counts, ANSWERS};
 use yuglasno::raw::RECORD;
 use yuglasno::Ids;
 
@@ -34,7 +35,10 @@ impl<'c> Episode<'c> {
         if random.one_in(2) {
             panel_side::run(&mut random, counts)?;
         }
-        let Some((slices, ids)) = opened(&mut random, counts)? else { return Ok(()) };
+        let Some((mut slices, ids)) = opened(&mut random, counts)? else { return Ok(()) };
+        if random.one_in(6) {
+            totals::far(slices.rec.lend(), &mut random);
+        }
         let beside = if random.one_in(4) { Some(Beside::opened(&mut random, counts)?) } else { None };
         let (asked, altered, over, call, incoming) = (0, false, false, 0, Vec::new());
         let mut episode = Self { random, counts, slices, ids, asked, altered, over, call, incoming, beside };
@@ -60,7 +64,12 @@ impl<'c> Episode<'c> {
             _ if self.random.one_in(8) => self.broken(),
             _ => Function::Wrote,
         };
-        let number = self.crossed(function)?;
+        let mut number = self.crossed(function)?;
+        if number == OVERFLOW << 8 {
+            // it still waits, and takes a fault
+            let fault = self.broken();
+            number = self.crossed(fault)?;
+        }
         if !refused(number) {
             self.asked = number & 255;
         } else if self.asked != 0 {
@@ -180,7 +189,7 @@ impl<'c> Episode<'c> {
     fn bent(&mut self) {
         let random = &mut self.random;
         let s = &mut self.slices;
-        match random.below(10) {
+        match random.below(13) {
             0 => s.rec = Lent::filled(random, RECORD),
             1 => {
                 let length = random.number(RECORD as u64).min(400) as usize;
@@ -198,6 +207,7 @@ impl<'c> Episode<'c> {
                     *byte ^= 1 << random.below(8);
                 }
             }
+            7..10 => totals::bent(s.rec.lend(), random),
             _ => {
                 let field = if random.one_in(4) {
                     random.below(RECORD / 8)
@@ -219,21 +229,36 @@ impl<'c> Episode<'c> {
         let number = self.slices.cross(function);
         self.counts.calls += 1;
         match number & 255 {
-            0 => self.counts.answered[(number >> 8).min(17) as usize] += 1,
+            0 => self.counts.answered[(number as usize >> 8).min(ANSWERS - 1)] += 1,
             what => self.counts.asked[what.min(5) as usize] += 1,
         }
         self.counts.altered += u64::from(self.altered);
         if let Some(fault) = fault(&before, &self.slices, number) {
             return Err(format!("{function:?} returned {number:#x}: {fault}"));
         }
+        self.counted(&before, function, number)?;
         if self.random.one_in(8) {
             let mut again = before;
-            let slices = |s: &Slices| [&s.rec, &s.rx, &s.msg, &s.out].map(|slice| slice.bytes().to_vec());
-            if again.cross(function) != number || slices(&again) != slices(&self.slices) {
+            if again.cross(function) != number || !again.same(&self.slices) {
                 return Err(format!("{function:?} returned {number:#x}, and another time something else"));
             }
         }
         Ok(number)
+    }
+
+    /// The totals after a crossing, and all else, are what they must be.
+    fn counted(&mut self, before: &Slices, function: Function, number: u32) -> Result<(), String> {
+        let Some(expected) = Expected::of(before, function) else { return Ok(()) };
+        if number != expected.number || !self.slices.same(&expected.slices) {
+            let is = &self.slices.rec.bytes()[8 * totals::RECEIVED..];
+            let wanted = &expected.slices.rec.bytes()[8 * totals::RECEIVED..];
+            let told = expected.number;
+            return Err(format!("{function:?} returned {number:#x}, not {told:#x}: {is:?}, expected {wanted:?}"));
+        }
+        if refused(number) && expected.no_room {
+            self.counts.no_room[number as usize >> 8] += 1;
+        }
+        Ok(())
     }
 }
 

@@ -1,7 +1,8 @@
 //! The exported functions under any input: `boundary CALLS SEED`. Sessions are run with random calls and reports; between
 //! their steps, and on copies of them, the functions are called with records, buffers, paths, call numbers, flags and
 //! counts of any value. Settings and ids files are of any kind too, and so are the slots of an index, and the replies that it is handed; and
-//! what a panel says and hears. Every crossing is checked: see `crossing.rs`, `index.rs` and `panel_side.rs`. Exit status 1 at the first fault.
+//! what a panel says and hears. Totals are of any size, many near 2^64 - 1. Every crossing is checked: see `crossing.rs`, `totals.rs`,
+//! `index.rs` and `panel_side.rs`. Exit status 1 at the first fault, and where a long run did not meet all that it should.
 #![forbid(unsafe_code)]
 
 mod crossing;
@@ -15,19 +16,29 @@ mod panel_side;
 mod random;
 mod stream;
 mod tables;
+mod totals;
 
 use episode::Episode;
 use random::Random;
 use std::io::{self, Write};
 use std::process::ExitCode;
 
+/// Answers have numbers below this one.
+const ANSWERS: usize = 24;
+/// What a report may be refused with where a total has no room for it.
+const OF_REPORTS: [usize; 5] = [3, 5, 6, 11, 21];
+/// A run of so many calls meets each of them.
+const LONG: u64 = 100_000;
+
 /// How often each thing was answered or asked.
 #[derive(Default)]
 pub struct Counts {
     pub calls: u64,
     pub opened: u64,
-    pub answered: [u64; 24],
+    pub answered: [u64; ANSWERS],
     pub asked: [u64; 6],
+    /// The refusals of reports that a total has no room for, by number.
+    pub no_room: [u64; ANSWERS],
     /// Calls on a record that was altered.
     pub altered: u64,
     /// Calls of an index.
@@ -54,14 +65,25 @@ fn main() -> ExitCode {
         }
     }
     print(&counts, seed);
-    ExitCode::SUCCESS
+    match OF_REPORTS.into_iter().find(|number| counts.no_room[*number] == 0) {
+        Some(number) if calls >= LONG => {
+            println!("boundary: seed {seed}: no report that a total has no room for was answered {number}");
+            ExitCode::from(1)
+        }
+        _ => ExitCode::SUCCESS,
+    }
+}
+
+/// Each number that was met, and how often.
+fn met(numbers: &[u64]) -> String {
+    let met = numbers.iter().enumerate().filter(|(_, n)| **n > 0);
+    met.map(|(number, n)| format!("{number}: {n}")).collect::<Vec<_>>().join(", ")
 }
 
 fn print(counts: &Counts, seed: u64) {
     let sum = |numbers: &[u64]| numbers.iter().sum::<u64>();
-    let met = counts.answered.iter().enumerate().filter(|(_, n)| **n > 0);
-    let each: Vec<String> = met.map(|(number, n)| format!("{number}: {n}")).collect();
-    println!("answers by number: {}", each.join(", "));
+    println!("answers by number: {}", met(&counts.answered));
+    println!("of reports that a total has no room for: {}", met(&counts.no_room));
     println!(
         "on records that were altered: {} calls; of an index: {} calls; of replies spoken and requests heard: {} calls",
         counts.altered, counts.indexed, counts.of_the_panel

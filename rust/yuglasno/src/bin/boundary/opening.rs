@@ -3,6 +3,7 @@ use crate::crossing::Slices;
 use crate::lent::Lent;
 use crate::random::Random;
 use crate::tables::{self, noted, of_settings};
+use crate::totals::RECEIVED;
 use crate::Counts;
 use yuglasno::raw::{self, RECORD, REPLY, SETTINGS};
 use yuglasno::Ids;
@@ -64,6 +65,9 @@ fn open(
     let guards = rec.guards_stand() && banner.guards_stand() && settings.guards_stand();
     if !guards || settings.bytes() != lent.bytes() || (number > 0 && before != rec.bytes()) {
         return Err(format!("opening for {rx} and {msg}, answered {number}, changed what it may not"));
+    }
+    if number == 0 && rec.bytes()[8 * RECEIVED..].iter().any(|byte| *byte != 0) {
+        return Err("an opening left totals that are not 0".into());
     }
     match number {
         0 => (counts.opened, counts.calls) = (counts.opened + 1, counts.calls + 1),

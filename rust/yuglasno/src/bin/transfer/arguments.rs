@@ -1,6 +1,7 @@
 //! The command line: options in any place, and the command's words.
 use crate::archive::Order;
 use crate::by_time::{Times, Which};
+use crate::card::Card;
 use crate::times::{moment, Edge};
 use std::ffi::{OsStr, OsString};
 use std::os::unix::ffi::{OsStrExt, OsStringExt};
@@ -22,6 +23,8 @@ pub struct Plan {
     /// A file of ids that is to be loaded into the settings.
     pub ids: Option<PathBuf>,
     pub settings: Settings,
+    /// What the sessions come to, where that is to be told.
+    pub card: Option<Card>,
     pub command: Command,
 }
 
@@ -86,6 +89,7 @@ struct Given {
     capacity: Option<usize>,
     ids: Option<PathBuf>,
     recursive: bool,
+    card: bool,
     times: Times,
     words: Vec<OsString>,
 }
@@ -128,6 +132,7 @@ impl Given {
             b"--capacity" => self.capacity = Some(capacity(words)?),
             b"--ids" => self.ids = Some(needed(words, "--ids", "FILE")?.into()),
             b"--recursive" => self.recursive = true,
+            b"--card" => self.card = true,
             b"--from" => self.times.from = Some(time(words, "--from", Edge::First)?),
             b"--to" => self.times.to = Some(time(words, "--to", Edge::Last)?),
             b"--latest" => self.times.latest = Some(time(words, "--latest", Edge::Last)?),
@@ -188,7 +193,8 @@ impl Given {
         set(timeouts, self.timeout, "--timeout goes with --server and --unix")?;
         set(cuts, self.cut, "--cut goes with --panel and --folder")?;
         let (capacity, settings) = (self.capacity.unwrap_or(CAPACITY), Settings::published());
-        Ok(Plan { place, features: self.features, capacity, ids: self.ids, settings, command })
+        let card = self.card.then(Card::default);
+        Ok(Plan { place, features: self.features, capacity, ids: self.ids, settings, card, command })
     }
 }
 

@@ -4,6 +4,7 @@
 mod archive;
 mod arguments;
 mod by_time;
+mod card;
 mod check;
 mod commands;
 mod folder;
@@ -30,21 +31,49 @@ use stop::Stop;
 
 fn main() -> ExitCode {
     signals::taken_over();
-    let done = match arguments::parsed(std::env::args_os().skip(1)) {
-        Ok(Request::Run(mut plan)) => {
-            let ready = folder::is_there(&plan).and_then(|()| ids::loaded(&mut plan));
-            ready.and_then(|()| run(&plan)).map_err(|stop| ids::hinted(stop, &plan))
-        }
-        Ok(Request::Help) => printed(&help::text()),
-        Ok(Request::Version) => printed(concat!("transfer ", env!("CARGO_PKG_VERSION"), "\n")),
-        Err(text) => Err(Stop::usage(&text)),
+    let status = match arguments::parsed(std::env::args_os().skip(1)) {
+        Ok(Request::Run(plan)) => carried_out(*plan),
+        Ok(Request::Help) => told(printed(&help::text())),
+        Ok(Request::Version) => told(printed(concat!("transfer ", env!("CARGO_PKG_VERSION"), "\n"))),
+        Err(text) => told(Err(Stop::usage(&text))),
     };
+    ExitCode::from(status)
+}
+
+/// The command, then its card, as the last line of all. The command's status is told before that of the card.
+fn carried_out(mut plan: Plan) -> u8 {
+    let ready = folder::is_there(&plan).and_then(|()| ids::loaded(&mut plan));
+    match told(ready.and_then(|()| run(&plan)).map_err(|stop| ids::hinted(stop, &plan))) {
+        0 => told(carded(&plan)),
+        status => {
+            let _ = carded(&plan);
+            status
+        }
+    }
+}
+
+/// The exit status, with the message of a stop.
+fn told(done: Result<(), Stop>) -> u8 {
     match done {
-        Ok(()) => ExitCode::SUCCESS,
+        Ok(()) => 0,
         Err(stop) => {
             say::say(format_args!("{}", stop.text));
-            ExitCode::from(stop.status)
+            stop.status
         }
+    }
+}
+
+fn carded(plan: &Plan) -> Result<(), Stop> {
+    let Some(card) = &plan.card else { return Ok(()) };
+    let mut out = lines(plan);
+    writeln!(out, "{card}").and_then(|()| out.flush()).map_err(|e| Stop::output(&e))
+}
+
+/// Where the command's lines go.
+fn lines(plan: &Plan) -> Box<dyn Write> {
+    match matches!(plan.place, Place::Stdio) || plan.command.takes_stdio() {
+        true => Box::new(io::stderr()),
+        false => Box::new(io::stdout()),
     }
 }
 
@@ -54,9 +83,7 @@ fn printed(text: &str) -> Result<(), Stop> {
 }
 
 fn run(plan: &Plan) -> Result<(), Stop> {
-    let lines_to_stderr = matches!(plan.place, Place::Stdio) || plan.command.takes_stdio();
-    let out: Box<dyn Write> = if lines_to_stderr { Box::new(io::stderr()) } else { Box::new(io::stdout()) };
-    let mut said = io::BufWriter::new(out);
+    let mut said = io::BufWriter::new(lines(plan));
     let done = match &plan.command {
         Command::Archive(order) => archive::run(plan, order, &mut said),
         Command::Verify(dir) => archive::verify(dir, &mut said),

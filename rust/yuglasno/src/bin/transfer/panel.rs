@@ -1,5 +1,6 @@
 //! The panel of a run: its place, and a session there, which may be opened anew where a FAIL has ended it.
 use crate::arguments::{Place, Plan};
+use crate::card::Counted;
 use crate::peer::Peer;
 use crate::place::{self, Reached};
 use crate::stop::Stop;
@@ -14,7 +15,7 @@ pub const ERRNO: u8 = 16;
 pub struct Panel<'p> {
     plan: &'p Plan,
     place: Reached,
-    session: Session<Vec<u8>>,
+    counted: Counted<'p>,
 }
 
 impl<'p> Panel<'p> {
@@ -22,11 +23,11 @@ impl<'p> Panel<'p> {
         let place = place::reached(plan)?;
         let (rx, msg) = (vec![0; plan.capacity], vec![0; plan.capacity]);
         let session = Session::open_with(&plan.settings, &place.banner, rx, msg)?;
-        Ok(Self { plan, place, session })
+        Ok(Self { plan, place, counted: Counted::new(session, plan.card.as_ref()) })
     }
 
     pub fn peer(&mut self) -> Peer<'_> {
-        Peer { session: &mut self.session, link: &mut *self.place.link }
+        Peer { session: &mut self.counted.session, link: &mut *self.place.link }
     }
 
     /// A session of its own in the place of one that a FAIL has ended.
@@ -42,7 +43,7 @@ impl<'p> Panel<'p> {
 
     /// Ends the session and lets go of the panel.
     pub fn quit(mut self) -> Result<(), Stop> {
-        let quit = self.session.quit(&mut *self.place.link).map_err(Stop::from);
+        let quit = self.counted.session.quit(&mut *self.place.link).map_err(Stop::from);
         self.place.leave();
         quit
     }

@@ -1,0 +1,78 @@
+-- What is claimed of a system against every host is claimed of a layer around it, within a bound that keeps below the layer's limit.
+-- Assumes nothing.
+use Prim.Native.Nat.{ℕ, _+_, _-_, _≤_, _<_}
+use mathlib.Core.List.{List, [], _∷_, _++_}
+use mathlib.Core.Option.{Option, none, some}
+use mathlib.Core.Path.{_≡_, refl, sym, _∙_}
+use native.Mathlib.Omega.{arith}
+use lib.ListN.{length, length-append}
+use Rattle.protocol.specs.Answers.{Answer, End, done}
+use Rattle.protocol.specs.Calls.{Call, messages, joinedMessages}
+use Rattle.protocol.specs.Ids.{Dialect}
+use Rattle.protocol.specs.Messages.{Request, joined, pieces, bytesOfRequest}
+use Rattle.protocol.specs.Reader.{Config, unlessWritten, writes, configAfter, plainWrites}
+use Rattle.protocol.specs.Refusal.{refusal}
+use Rattle.protocol.proofs.Messages.{pieces-joined}
+use Rattle.session.specs.Demand3.{System, reader, Bound, below}
+use Rattle.session.specs.EveryHost.{EveryHost}
+use Rattle.session.specs.Faithful.{piecesOf, unlessPieces, callPieces, Accepted, Faithful}
+use Rattle.session.specs.Host.{Show, Broken, Entry, atStart}
+use Rattle.session.proofs.Logs.{log-ends}
+use Rattle.session_layer.specs.Layer.{Account, atOpening, Around, sizes, total}
+use Rattle.session_layer.proofs.Runs.{log-same}
+
+-- ---- a faithful log writes no more than the plain reader
+
+sizes-joined : (ps : List (List ℕ)) → sizes ps ≡ length (joined ps)
+sizes-joined [] = refl
+sizes-joined (p ∷ ps) = rw (length-append p (joined ps), sizes-joined ps)
+
+sizes-append : (ps qs : List (List ℕ)) → sizes (ps ++ qs) ≡ sizes ps + sizes qs
+sizes-append [] qs = omega arith
+sizes-append (p ∷ ps) qs = omega (arith, sizes-append ps qs)
+
+sizes-messages : (d : Dialect) (free : ℕ) (qs : List Request) → sizes (piecesOf d free qs) ≡ length (joinedMessages d qs)
+sizes-messages d free [] = refl
+sizes-messages d free (q ∷ qs) =
+    sizes-append (pieces d free q) (piecesOf d free qs) ∙ rw (sizes-joined (pieces d free q), pieces-joined d free q, sizes-messages d free qs) (sym (length-append (bytesOfRequest d q) (joinedMessages d qs)))
+
+sizes-call : (g : Config) (q : Call) (n : ℕ) → sizes (callPieces g q n) ≡ length (writes g q)
+unfolding writes
+sizes-call g q n = go (refusal (g .setting) q)
+  where
+    go : (o : Option Answer) → sizes (unlessPieces o (piecesOf (g .setting .dialect) (g .capacity - n) (messages q))) ≡ length (unlessWritten o (joinedMessages (g .setting .dialect) (messages q)))
+    go (some a) = refl
+    go none = sizes-messages (g .setting .dialect) (g .capacity - n) (messages q)
+
+sizes-accepted : (ps xs : List (List ℕ)) (bs : List Broken) → Accepted ps xs bs → sizes xs ≤ sizes ps
+sizes-accepted ps xs [] h = rw h (omega arith)
+sizes-accepted ps xs (b ∷ []) (rest, (e, x)) = rw e (omega (arith, sizes-append xs (b .piece ∷ rest)))
+sizes-accepted ps xs (b ∷ c ∷ bs) h = absurd h
+
+log-below : (e : End) (g : Config) (qs : List Call) (v : List ℕ) (es : List Entry) → Faithful g e qs v es → total es ≤ length (plainWrites g qs)
+unfolding plainWrites
+log-below e g [] v [] f = omega arith
+log-below e g [] v (x ∷ es) f = absurd f
+log-below e g (q ∷ qs) v [] f = absurd f
+log-below e g (q ∷ qs) v (x ∷ es) f =
+    omega (arith, log-below e (configAfter g q) qs (x .unread) es (f .1), sizes-call g q (length (x .held)), sizes-accepted _ _ (x .broken) (f .0 .pieces), length-append (writes g q) (plainWrites (configAfter g q) qs))
+
+-- ---- what is claimed against every host
+
+-- a bound that asks more
+pub narrower : {X : Type 0} (W′ W : Bound) (S : System X) → ((m n : ℕ) → W′ m n → W m n) → EveryHost W S → EveryHost W′ S
+narrower W′ W S f every o x rx msg p least room wide h z lends qs v incoming b within =
+    every o x rx msg p least room wide h z lends qs v incoming b (f _ _ within)
+
+module _ {Y X : Type 0} (limit : ℕ) (T : System Y) (S : System X) (R : Account → Show → Y → X → Type 0) (A : Around limit T S R)
+    (W : Bound) (keeps : (m n : ℕ) → W m n → below limit m n) where
+  pub carried : EveryHost W S → EveryHost W T
+  carried every o y rx msg p least room wide h z lends qs v incoming b within =
+      let x = every o (A .inner y) rx msg (A .place y p) least room wide h z (λ w. A .lends (h .spare w) (lends w)) qs v incoming b within in
+      let g : Config = reader o (length rx) (h .close) in
+      let k : below limit (length incoming) (length (plainWrites g qs)) = keeps _ _ within in (
+        A .number y p o rx msg ∙ x .0,
+        rw (log-same limit (T .engine) (S .engine) (T .lends) R (A .layer) h lends qs (atOpening incoming) (atStart incoming) done _ _ rx msg refl
+            (A .opens y p o rx msg incoming (x .0) (k .0))
+            (log-ends (h .end) g qs incoming _ (x .1), omega (arith, log-below (h .end) g qs incoming _ (x .1)))) (x .1),
+      )

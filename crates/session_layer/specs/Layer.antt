@@ -1,0 +1,100 @@
+-- A layer: an engine F around an engine E that keeps numbers of its own and else does what E does. What its numbers are is said by a relation
+-- over the host's own account of what was read and written; F must do what E does only while the account stays within bounds.
+-- Assumes nothing.
+use Prim.Native.Nat.{ℕ, _+_, _≤_, _<_}
+use mathlib.Core.List.{List, [], _∷_}
+use mathlib.Core.Path.{_≡_}
+use lib.ListN.{length, drop}
+use Rattle.protocol.specs.Answers.{Answer, End, done}
+use Rattle.protocol.specs.Calls.{Call}
+use Rattle.session.specs.Demand3.{Opening, System}
+use Rattle.session.specs.Host.{Show, told, read, writeRx, writeLent, writeBytes, close, Spare, Step, Engine, Ask, World, Entry}
+
+-- ---- the host's account
+
+-- how many bytes a write asks for
+abbrev pub asked : Show → ℕ
+asked (told a) = 0
+asked (read at len) = 0
+asked (writeRx at len) = len
+asked (writeLent at len) = len
+asked (writeBytes b) = length b
+asked close = 0
+
+-- a write or the close is asked
+abbrev pub Writes : Show → Type 0
+Writes (told a) = ⊥
+Writes (read at len) = ⊥
+Writes (writeRx at len) = Unit {0}
+Writes (writeLent at len) = Unit {0}
+Writes (writeBytes b) = Unit {0}
+Writes close = Unit {0}
+
+-- bytes still to come; since the opening, bytes that accepted reads brought and bytes of accepted pieces
+pub record Account : Type 0 where
+  pub left : List ℕ
+  pub received : ℕ
+  pub written : ℕ
+
+abbrev pub atOpening : List ℕ → Account
+atOpening incoming = record { left = incoming; received = 0; written = 0 }
+
+abbrev pub reading : ℕ → Account → Account
+reading k l = record { left = drop k (l .left); received = l .received + k; written = l .written }
+
+abbrev pub writing : ℕ → Account → Account
+writing n l = record { left = l .left; received = l .received; written = l .written + n }
+
+-- ---- a layer
+
+-- a step, with another session in it
+abbrev pub under : {Y X : Type 0} → Y → Step X → Step Y
+under y s = record { x = y; rx = s .rx; msg = s .msg; show = s .show }
+
+-- F's step is E's, and the relation holds again
+abbrev pub Alike : {Y X : Type 0} → (Account → Show → Y → X → Type 0) → Account → Step Y → Step X → Type 0
+Alike {Y} R l t s = (y : Y) × ((t ≡ under y s) × R l (s .show) y (s .x))
+
+-- `R l sh y x`: with the account l, and sh last asked or told, F's session y stands for E's session x. Fewer bytes are written than the limit.
+-- `lends`: what a step may be lent besides.
+pub record Layer {Y X : Type 0} (limit : ℕ) (F : Engine Y) (E : Engine X) (lends : Spare → Type 0) (R : Account → Show → Y → X → Type 0) : Type 0 where
+  pub holds : (l : Account) (sh : Show) (y : Y) (x : X) → R l sh y x → (rx : List ℕ) → F .holds y rx ≡ E .holds x rx
+  pub tail : (l : Account) (sh : Show) (y : Y) (x : X) → R l sh y x → F .tail y ≡ E .tail x
+  pub start : (l : Account) (a : Answer) (y : Y) (x : X) → R l (told a) y x → (rx msg : List ℕ) (q : Call) (z : Spare) → lends z
+      → Alike R l (F .start y rx msg q z) (E .start x rx msg q z)
+  pub onRead : (l : Account) (at len : ℕ) (y : Y) (x : X) → R l (read at len) y x → (rx msg lent : List ℕ) (k : ℕ) (z : Spare) → lends z
+      → 0 < k → k ≤ len → k ≤ length (l .left) → Alike R (reading k l) (F .onRead y rx msg lent k z) (E .onRead x rx msg lent k z)
+  pub onWrote : (l : Account) (sh : Show) (y : Y) (x : X) → R l sh y x → Writes sh → l .written + asked sh < limit → (rx msg lent : List ℕ) (z : Spare) → lends z
+      → Alike R (writing (asked sh) l) (F .onWrote y rx msg lent z) (E .onWrote x rx msg lent z)
+  pub onFault : (l : Account) (sh : Show) (y : Y) (x : X) → R l sh y x → (rx msg lent : List ℕ) (e : End) (z : Spare) → lends z
+      → Alike R l (F .onFault y rx msg lent e z) (E .onFault x rx msg lent e z)
+
+-- T is a layer around S, where fewer bytes come and are written than the limit: `inner` is what stands in the place of S's session, inside what stands
+-- in the place of T's
+pub record Around {Y X : Type 0} (limit : ℕ) (T : System Y) (S : System X) (R : Account → Show → Y → X → Type 0) : Type 0 where
+  pub layer : Layer limit (T .engine) (S .engine) (T .lends) R
+  pub inner : Y → X
+  pub place : (y : Y) → T .place y → S .place (inner y)
+  pub lends : (z : Spare) → T .lends z → S .lends z
+  pub number : (y : Y) → T .place y → (o : Opening) (rx msg : List ℕ) → T .opened y o rx msg .number ≡ S .opened (inner y) o rx msg .number
+  pub opens : (y : Y) → T .place y → (o : Opening) (rx msg incoming : List ℕ) → S .opened (inner y) o rx msg .number ≡ 0 → length incoming < limit
+      → R (atOpening incoming) (told done) (T .opened y o rx msg .x) (S .opened (inner y) o rx msg .x)
+
+-- ---- the account, from what the host has done
+
+abbrev pub sizes : List (List ℕ) → ℕ
+sizes [] = 0
+sizes (p ∷ ps) = length p + sizes ps
+
+abbrev pub brought : List Ask → ℕ
+brought [] = 0
+brought (a ∷ more) = brought more + a .brought
+
+-- l was the account when the call began
+abbrev pub account : Account → World → Account
+account l w = record { left = w .left; received = l .received + brought (w .asks); written = l .written + sizes (w .pieces) }
+
+-- how many bytes a log has written
+abbrev pub total : List Entry → ℕ
+total [] = 0
+total (e ∷ es) = sizes (e .pieces) + total es

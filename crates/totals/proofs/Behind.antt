@@ -1,0 +1,66 @@
+-- A record with totals, taken apart: the session's bytes in front, four numbers behind them.
+-- Assumes nothing.
+use Prim.Native.Nat.{ℕ, zero, suc, _+_, _-_, _*_, _<_}
+use mathlib.Core.List.{List, [], _∷_, _++_}
+use mathlib.Core.Path.{_≡_, sym, ap, _∙_}
+use native.Mathlib.Omega.{arith}
+use borrow.Author.Tests.{le-leb}
+use lib.ListN.{length, take, drop, getD, length-append}
+use lib.Seq.{take-at, drop-at, drop-nil, take-append-seam}
+use Rattle.protocol.specs.Bytes.{bytesOf, le, numberAt}
+use Rattle.protocol.proofs.Bytes.{length-bytesOf, le-bytesOf}
+use Rattle.protocol.proofs.Words.{number-behind}
+use Rattle.record.specs.Record.{words, wordOf, size}
+use Rattle.record.proofs.Words.{length-words}
+use Rattle.session.proofs.Buf.{number-in}
+use Rattle.totals.specs.Crossing.{recordSize, receivedOf, consumedOf, writtenOf, askedOf, heldOf, limit}
+
+-- a number of a list, whatever the others are
+word-of : (ns : List ℕ) (i : ℕ) → getD ns i 0 < limit → wordOf (words ns) i ≡ getD ns i 0
+unfolding numberAt
+word-of [] i h = rw drop-nil
+word-of (n ∷ ns) zero h = ap le (take-append-seam (bytesOf 8 n) (words ns)) ∙ le-bytesOf 8 n h
+word-of (n ∷ ns) (suc i) h =
+    let e : 8 * suc i ≡ length (bytesOf 8 n) + 8 * i = omega (arith, length-bytesOf 8 n) in
+    ap (λ (k : ℕ). numberAt 8 k (bytesOf 8 n ++ words ns)) e ∙ number-behind 8 (bytesOf 8 n) (words ns) (8 * i) ∙ word-of ns i h
+
+-- the session's numbers, whatever stands behind them
+pub in-front : (x own : List ℕ) → length x ≡ size → (i : ℕ) → i < 32 → wordOf (x ++ own) i ≡ wordOf x i
+in-front x own e i h =
+    sym (number-in (length x) 8 (8 * i) (x ++ own) (le-leb (8 * i + 8) (length x) (omega (arith, e)))) ∙ ap (numberAt 8 (8 * i)) (take-append-seam x own)
+
+module _ (x : List ℕ) (e : length x ≡ size) (r d n a : ℕ) where
+  abbrev own : List ℕ
+  own = r ∷ d ∷ n ∷ a ∷ []
+
+  abbrev pub whole : List ℕ
+  whole = x ++ words own
+
+  pub whole-size : length whole ≡ recordSize
+  whole-size = length-append x (words own) ∙ omega (arith, e, length-words own)
+
+  pub whole-inner : take size whole ≡ x
+  whole-inner = take-at x (words own) size e
+
+  pub whole-own : drop size whole ≡ words own
+  whole-own = drop-at x (words own) size e
+
+  behind : (i : ℕ) → getD own i 0 < limit → wordOf whole (32 + i) ≡ getD own i 0
+  behind i h =
+      let f : 8 * (32 + i) ≡ length x + 8 * i = omega (arith, e) in
+      ap (λ (k : ℕ). numberAt 8 k whole) f ∙ number-behind 8 x (words own) (8 * i) ∙ word-of own i h
+
+  pub whole-received : r < limit → receivedOf whole ≡ r
+  whole-received h = behind 0 h
+
+  pub whole-consumed : d < limit → consumedOf whole ≡ d
+  whole-consumed h = behind 1 h
+
+  pub whole-written : n < limit → writtenOf whole ≡ n
+  whole-written h = behind 2 h
+
+  pub whole-asked : a < limit → askedOf whole ≡ a
+  whole-asked h = behind 3 h
+
+  pub whole-held : heldOf whole ≡ heldOf x
+  whole-held = rw (in-front x (words own) e 2 (omega arith), in-front x (words own) e 3 (omega arith))

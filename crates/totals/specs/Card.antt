@@ -1,0 +1,84 @@
+-- The card: what a host adds up of its own reports, that the record shows these sums, and what is refused: 21 behind the table of misuse.
+-- Assumes nothing.
+use Prim.Native.Nat.{ℕ, _+_, _*_, _≤_, _<_, _^_}
+use mathlib.Core.Bool.{Bool, _||_}
+use mathlib.Core.List.{List, [], _∷_}
+use mathlib.Core.Option.{Option, none, some}
+use mathlib.Core.Path.{_≡_}
+use lib.Dec.{leb}
+use lib.ListN.{length}
+use Rattle.protocol.specs.Answers.{Answer, refused}
+use Rattle.protocol.specs.Refusal.{orElse, refuse}
+use Rattle.boundary.specs.Crossing.{Crossed}
+use Rattle.boundary_misuse.specs.Claim.{heardOf, Answers, follow}
+use Rattle.boundary_misuse.specs.Misuse.{hasRead, wrote, fault, Act, start, report, Event, AllWide, Seen, opened, refusal}
+use Rattle.session_layer.specs.Layer.{asked}
+use Rattle.totals.specs.System.{counting}
+use Rattle.totals.specs.Crossing.{limit, overflowed, receivedOf, consumedOf, writtenOf, totalOpen, totalStart, totalRead, totalWrote, totalFault}
+
+-- what crosses, on a record with totals
+abbrev pub totalActed : List ℕ → Event → Act → Crossed
+totalActed rec e (start n a b) = totalStart rec (e .rx) (e .msg) (e .lent) n a b (e .out)
+totalActed rec e (report (hasRead k)) = totalRead rec (e .rx) (e .msg) (e .lent) k (e .out)
+totalActed rec e (report wrote) = totalWrote rec (e .rx) (e .msg) (e .lent) (e .out)
+totalActed rec e (report (fault kind code)) = totalFault rec (e .rx) (e .msg) (e .lent) kind code (e .out)
+
+abbrev pub totalBy : List ℕ → Event → Crossed
+totalBy rec e = totalActed rec e (e .act)
+
+-- ---- the sums
+
+-- "the sum of the counts reported by accepted reads", "the sum of accepted piece lengths"
+pub record Sums : Type 0 where
+  pub received : ℕ
+  pub written : ℕ
+
+abbrev pub noSums : Sums
+noSums = record { received = 0; written = 0 }
+
+-- what an event adds where it is accepted: a read its count, a write what was last asked; a call, a fault and a close nothing
+abbrev pub adds : Seen → Sums → Act → Sums
+adds s t (start n a b) = t
+adds s t (report (hasRead k)) = record { received = t .received + k; written = t .written }
+adds s t (report wrote) = record { received = t .received; written = t .written + asked (s .last) }
+adds s t (report (fault kind code)) = t
+
+abbrev pub sumsAfter : Option Answer → Sums → Sums → Sums
+sumsAfter (some a) t t′ = t
+sumsAfter none t t′ = t′
+
+-- the record shows them; "received = consumed + held", the bytes that are held as demand 3's host has them, in any receive buffer of that capacity
+pub record Shows (capacity : ℕ) (t : Sums) (rec : List ℕ) : Type 0 where
+  pub received : receivedOf rec ≡ t .received
+  pub written : writtenOf rec ≡ t .written
+  pub consumed : (rx : List ℕ) → length rx ≡ capacity → receivedOf rec ≡ consumedOf rec + length (counting .holds rec rx)
+
+-- ---- what is refused
+
+-- "would pass 2^64 − 1 in a total"
+abbrev pub passes : Sums → Bool
+passes t = leb limit (t .received) || leb limit (t .written)
+
+-- "21, after 11": behind all that misuse's table refuses
+abbrev pub refusedBy : Seen → Sums → Event → Option Answer
+refusedBy s t e = orElse (refusal s e) (refuse (passes (adds s t (e .act))) (refused overflowed))
+
+-- what is answered: a refusal as misuse has it; where there is none, what is told is 0 or one of 12 to 17, and so no refusal
+abbrev pub AnswersBy : Option Answer → List ℕ → Event → Crossed → Type 0
+AnswersBy (some a) rec e c = Answers (some a) rec e c
+AnswersBy none rec e c = (n : ℕ) → c .number ≡ 256 * n → 0 < n → (12 ≤ n) × (n < 18)
+
+-- ---- event after event, on the record as it was left
+
+abbrev pub EveryMoment : Seen → Sums → List ℕ → List Event → Type 0
+EveryMoment s t rec [] = Shows (s .capacity) t rec
+EveryMoment s t rec (e ∷ es) =
+    Shows (s .capacity) t rec
+    × (AnswersBy (refusedBy s t e) rec e (totalBy rec e)
+    × EveryMoment (follow (refusedBy s t e) s e (heardOf (totalBy rec e))) (sumsAfter (refusedBy s t e) t (adds s t (e .act))) (totalBy rec e .rec) es)
+
+-- "For every list of calls and reports from fresh", well placed or not
+abbrev pub CardClaim : Type 0
+CardClaim =
+    (rec settings banner : List ℕ) (c m : ℕ) → m < 2 ^ 63 → totalOpen rec settings banner c m .number ≡ 0
+    → (es : List Event) → AllWide es → EveryMoment (opened banner c m) noSums (totalOpen rec settings banner c m .rec) es

@@ -1,0 +1,132 @@
+-- What the exported functions of a session come to: a step of the session inside the record, and the totals behind it (document 02, [7]).
+--
+-- The record is the session's 256 bytes and four numbers of eight bytes: the bytes received, consumed and written since the opening, and the length of
+-- the piece that was last asked to be written.
+-- Assumes nothing.
+use Prim.Native.Nat.{ℕ, _+_, _-_, _/_, _^_}
+use mathlib.Core.Bool.{Bool, _&&_, _||_, not}
+use mathlib.Core.List.{List, [], _∷_, _++_}
+use lib.Dec.{eqb, ltb, leb}
+use lib.ListN.{length, take, drop}
+use Rattle.protocol.specs.Bytes.{pick, put}
+use Rattle.record.specs.Record.{words, wordOf, size}
+use Rattle.session.specs.Host.{Show, told, read, writeRx, writeLent, writeBytes, close}
+use Rattle.session.specs.declared.Answer.the-variants as A
+use Rattle.session.specs.declared.Reply.{Reply}
+use Rattle.session.specs.declared.Reply.the-variants as R
+use Rattle.boundary.specs.Crossing.{Crossed, crossed, turnedAway, OpenCrossed, crossOpen, crossStart, crossRead, crossWrote, crossFault}
+use Rattle.boundary.specs.Heard.{heard}
+use Rattle.boundary.specs.Told.{replyNumber, replyBytes}
+
+-- ---- the numbers of a record
+
+abbrev pub recordSize : ℕ
+recordSize = 288
+
+-- their places, behind the session's 32
+abbrev pub receivedAt : ℕ
+receivedAt = 32
+
+abbrev pub consumedAt : ℕ
+consumedAt = 33
+
+abbrev pub writtenAt : ℕ
+writtenAt = 34
+
+abbrev pub askedAt : ℕ
+askedAt = 35
+
+abbrev pub receivedOf : List ℕ → ℕ
+receivedOf rec = wordOf rec receivedAt
+
+abbrev pub consumedOf : List ℕ → ℕ
+consumedOf rec = wordOf rec consumedAt
+
+abbrev pub writtenOf : List ℕ → ℕ
+writtenOf rec = wordOf rec writtenAt
+
+abbrev pub askedOf : List ℕ → ℕ
+askedOf rec = wordOf rec askedAt
+
+-- bytes received and not consumed: tail less head
+abbrev pub heldOf : List ℕ → ℕ
+heldOf rec = wordOf rec 3 - wordOf rec 2
+
+-- ---- a step
+
+-- a total is below this
+abbrev pub limit : ℕ
+limit = 2 ^ 64
+
+-- the answer to a report that would bring one there
+abbrev pub overflowed : ℕ
+overflowed = 21
+
+-- one of the numbers 1 to 11 is told: nothing was done
+abbrev pub refuses : (number : ℕ) → Bool
+refuses n = ltb 0 (n / 256) && ltb (n / 256) 12
+
+-- the length of the piece that was last asked, by what is asked or told now; a close asks for no bytes
+abbrev pub pieceAsked : Show → (before : ℕ) → ℕ
+pieceAsked (told a) n = n
+pieceAsked (read at len) n = n
+pieceAsked (writeRx at len) n = len
+pieceAsked (writeLent at len) n = len
+pieceAsked (writeBytes b) n = length b
+pieceAsked close n = 0
+
+-- a session with these totals behind it; consumed is received less what is held
+abbrev pub totalling : (session : List ℕ) → (received written asked : ℕ) → List ℕ
+totalling x r n a = x ++ words (r ∷ (r - heldOf x) ∷ n ∷ a ∷ [])
+
+-- c is the step of the session inside: refused, the numbers behind it stay; else these are the totals
+abbrev pub withTotals : (rec : List ℕ) → (received written : ℕ) → Crossed → Crossed
+withTotals rec r n c =
+    crossed (pick (refuses (c .number)) (c .rec ++ drop size rec) (totalling (c .rec) r n (pieceAsked (heard (c .number) (c .out) (c .rx) (c .msg)) (askedOf rec))))
+    (c .rx) (c .msg) (c .out) (c .number)
+
+-- 21, told; nothing else is altered
+abbrev pub overflowReply : Reply
+overflowReply = R.Told (A.Refused overflowed)
+
+abbrev pub overflowing : (rec rx msg out : List ℕ) → Crossed
+overflowing rec rx msg out = crossed rec rx msg (put out 0 (replyBytes overflowReply)) (replyNumber overflowReply)
+
+-- what the session refuses is refused; then 21, where a total would reach the limit
+abbrev pub totalled : (rec rx msg out : List ℕ) → (received written : ℕ) → Crossed → Crossed
+totalled rec rx msg out r n c =
+    pick (not (refuses (c .number)) && (leb limit r || leb limit n)) (overflowing rec rx msg out) (withTotals rec r n c)
+
+-- 3, nothing altered, for a record of another length
+abbrev pub onRecord : (rec rx msg out : List ℕ) → Crossed → Crossed
+onRecord rec rx msg out c = pick (eqb (length rec) recordSize) c (turnedAway rec rx msg out)
+
+-- ---- the functions
+
+-- opening: as the session's, in the front of the record, all totals 0; a record of another length is 3, behind 1 and 2, and a refusal leaves it
+abbrev pub openTotals : (rec : List ℕ) → OpenCrossed → OpenCrossed
+openTotals rec o =
+    pick (eqb (o .number) 0) (record { rec = totalling (o .rec) 0 0 0; number = 0 }) (record { rec = rec; number = o .number })
+
+unfoldable pub totalOpen : List ℕ → (settings banner : List ℕ) → (rx msg : ℕ) → OpenCrossed
+totalOpen rec settings banner rx msg =
+    openTotals rec (crossOpen (pick (eqb (length rec) recordSize) (take size rec) []) settings banner rx msg)
+
+-- starting a call and a fault add nothing, a read its count, a write that was accepted the length of its piece
+unfoldable pub totalStart : (rec rx msg lent : List ℕ) → (call a b : ℕ) → (out : List ℕ) → Crossed
+totalStart rec rx msg lent n a b out =
+    onRecord rec rx msg out (withTotals rec (receivedOf rec) (writtenOf rec) (crossStart (take size rec) rx msg lent n a b out))
+
+unfoldable pub totalRead : (rec rx msg lent : List ℕ) → (count : ℕ) → (out : List ℕ) → Crossed
+totalRead rec rx msg lent k out =
+    onRecord rec rx msg out
+    (totalled rec rx msg out (receivedOf rec + k) (writtenOf rec) (crossRead (take size rec) rx msg lent k out))
+
+unfoldable pub totalWrote : (rec rx msg lent out : List ℕ) → Crossed
+totalWrote rec rx msg lent out =
+    onRecord rec rx msg out
+    (totalled rec rx msg out (receivedOf rec) (writtenOf rec + askedOf rec) (crossWrote (take size rec) rx msg lent out))
+
+unfoldable pub totalFault : (rec rx msg lent : List ℕ) → (kind code : ℕ) → (out : List ℕ) → Crossed
+totalFault rec rx msg lent kind code out =
+    onRecord rec rx msg out (withTotals rec (receivedOf rec) (writtenOf rec) (crossFault (take size rec) rx msg lent kind code out))

@@ -1,0 +1,5 @@
+pub mod Crossing
+pub mod System
+pub mod Card
+pub mod Claim
+pub mod Facts

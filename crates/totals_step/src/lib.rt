@@ -1,0 +1,283 @@
+// A session with totals in a lent record of 288 bytes (document 02, [7]): a step of the session inside, and the totals behind it.
+ghost use mathlib.Core.Bool.{_&&_};
+ghost use mathlib.Core.Path.{_≡_};
+ghost use Prim.Native.Nat.{_+_, _-_, _%_, _≤_};
+ghost use lib.Dec.{leb};
+ghost use lib.ListN.{length, take};
+ghost use Rattle.record.specs.Record.{loaded, size};
+ghost use Rattle.boundary.specs.Crossing.{crossed};
+ghost use Rattle.boundary.specs.Told.{outSize};
+ghost use Rattle.boundary_step.specs.Opened.{openCrossed};
+ghost use Rattle.totals.specs.Crossing.{recordSize, limit, refuses, totalOpen, totalStart, totalRead, totalWrote, totalFault};
+ghost use Rattle.totals_taken.specs.Taken.{takesRead, takesWrote};
+ghost use Rattle.totals_step.specs.Settled.{askedBy, settledBy};
+use boundary::REPLY;
+use boundary_reply::put_three;
+use boundary_step::session_fault;
+use boundary_step::session_open;
+use boundary_step::session_read;
+use boundary_step::session_start;
+use boundary_step::session_wrote;
+use format_number::put_u64;
+use format_number::u64_at;
+use record::SIZE;
+use record_store::put_four;
+use totals_taken::takes_read;
+use totals_taken::takes_wrote;
+
+// The length of a record: the session's bytes, and four numbers.
+const CARD: usize = 288;
+
+// Where the numbers lie: the bytes received, consumed and written, and the length of the piece that was last asked to be written.
+const RECEIVED: usize = 256;
+
+const CONSUMED: usize = 264;
+
+const WRITTEN: usize = 272;
+
+const ASKED: usize = 280;
+
+// Where the session's head and tail lie: it holds the bytes between them.
+const HEAD: usize = 16;
+
+const TAIL: usize = 24;
+
+// The largest total.
+const MOST: u64 = 0xffff_ffff_ffff_ffff;
+
+// What is returned for answer 3, to a record of another length or too short a slice for a reply, and for 21, to a total that would pass the largest.
+const AWAY: u32 = 768;
+
+const OVER: u32 = 5376;
+
+// A reply's kind where an answer is none of the others.
+const OTHER: u64 = 7;
+
+// A number that is returned is what is asked, and this times the answer. What is asked is a write from the first of these on, by the second of bytes that stand in
+// the reply.
+const ANSWER: u32 = 256;
+
+const WRITES: u32 = 2;
+
+const WRITES_BYTES: u32 = 4;
+
+// One more than the last answer that refuses.
+const REFUSALS: u32 = 12;
+
+// The length of a number in a reply.
+const WORD: usize = 8;
+
+// a - b; 0 where b is larger.
+fn less(a: u64, b: u64) -> u64
+    ensures { λ r. ⌜ r ≡ a - b ⌝ }
+{
+    if a < b {
+        return 0;
+    }
+    a - b
+}
+
+// Whether one of 1 to 11 is told.
+fn refuses(n: u32) -> bool
+    ensures { λ r. ⌜ r ≡ refuses n ⌝ }
+{
+    let k = n / ANSWER;
+    if k == 0 {
+        return false;
+    }
+    k < REFUSALS
+}
+
+// The length of the piece that is asked to be written; 0 for a close.
+fn piece_len(n: u32, out: &[u8]) -> u64
+    requires { ⌜ (outSize ≤ length (now out)) × (2 ≤ n % 256) ⌝ }
+    ensures { λ r. ⌜ r ≡ askedBy n (now (out .entry)) 0 ⌝ }
+{
+    let what = n % ANSWER;
+    if what < WRITES_BYTES {
+        return u64_at(out, WORD);
+    }
+    if what == WRITES_BYTES {
+        let len = u64_at(out, 0);
+        let room = out.len() - WORD;
+        if len < room as u64 {
+            return len;
+        }
+        return room as u64;
+    }
+    0
+}
+
+// Puts what follows from the bytes received and from what is asked or told now: the bytes consumed, and the length of the piece that was last asked.
+fn settle(rec: &mut [u8], received: u64, n: u32, out: &[u8])
+    requires { ⌜ (length (now rec) ≡ recordSize) × (outSize ≤ length (now out)) ⌝ }
+    ensures { λ _. ⌜ now (rec .exit) ≡ settledBy (now (rec .entry)) received n (now (out .entry)) ⌝ }
+{
+    let held = less(u64_at(rec, TAIL), u64_at(rec, HEAD));
+    put_u64(rec, CONSUMED, less(received, held));
+    if n % ANSWER < WRITES {
+        return;
+    }
+    put_u64(rec, ASKED, piece_len(n, out));
+}
+
+// Whether a read that the session would take brings the bytes received past the largest total.
+fn over_read(rec: &[u8], before: u64, rx: usize, msg: usize, lent: usize, count: usize) -> bool
+    requires { ⌜ length (now rec) ≡ recordSize ⌝ }
+    ensures { λ r. ⌜ r ≡ (leb limit (before + count) && takesRead (loaded (take size (now (rec .entry)))) rx msg lent count) ⌝ }
+{
+    let room = MOST - before;
+    if count as u64 <= room {
+        return false;
+    }
+    takes_read(&rec[..SIZE], rx, msg, lent, count)
+}
+
+// The same of a piece of that length that is out, and the bytes written.
+fn over_wrote(rec: &[u8], before: u64, asked: u64, rx: usize, msg: usize, lent: usize) -> bool
+    requires { ⌜ length (now rec) ≡ recordSize ⌝ }
+    ensures { λ r. ⌜ r ≡ (leb limit (before + asked) && takesWrote (loaded (take size (now (rec .entry)))) rx msg lent) ⌝ }
+{
+    let room = MOST - before;
+    if asked <= room {
+        return false;
+    }
+    takes_wrote(&rec[..SIZE], rx, msg, lent)
+}
+
+// Opens a session in the front of the record, with all totals 0, and answers as its opening does, which is lent nothing of a record of another
+// length; a refusal leaves it alone.
+pub fn total_open(rec: &mut [u8], settings: &[u8], banner: &[u8], rx: usize, msg: usize) -> u32
+    ensures { λ r. ⌜ openCrossed (now (rec .exit)) r ≡ totalOpen (now (rec .entry)) (now (settings .entry)) (now (banner .entry)) rx msg ⌝ }
+{
+    if rec.len() != CARD {
+        return session_open(&mut rec[..0], settings, banner, rx, msg);
+    }
+    let n = session_open(&mut rec[..SIZE], settings, banner, rx, msg);
+    if n == 0 {
+        put_four(rec, RECEIVED, 0, 0, 0, 0);
+        return 0;
+    }
+    n
+}
+
+// Starts a call: no total is added to.
+pub fn total_start(
+    rec: &mut [u8],
+    rx: &mut [u8],
+    msg: &mut [u8],
+    lent: &[u8],
+    call: u32,
+    a: u32,
+    b: u32,
+    out: &mut [u8],
+) -> u32
+    ensures { λ r. ⌜ crossed (now (rec .exit)) (now (rx .exit)) (now (msg .exit)) (now (out .exit)) r ≡ totalStart (now (rec .entry)) (now (rx .entry)) (now (msg .entry)) (now (lent .entry)) call a b (now (out .entry)) ⌝ }
+{
+    if rec.len() != CARD {
+        return AWAY;
+    }
+    if out.len() < REPLY {
+        return AWAY;
+    }
+    let received = u64_at(rec, RECEIVED);
+    let n = session_start(&mut rec[..SIZE], rx, msg, lent, call, a, b, out);
+    if refuses(n) {
+        return n;
+    }
+    settle(rec, received, n, out);
+    n
+}
+
+// count bytes were read into the window, and are added to those received. 21 where these would pass the largest total, behind what the session
+// refuses; nothing is altered then.
+pub fn total_read(
+    rec: &mut [u8],
+    rx: &mut [u8],
+    msg: &mut [u8],
+    lent: &[u8],
+    count: usize,
+    out: &mut [u8],
+) -> u32
+    ensures { λ r. ⌜ crossed (now (rec .exit)) (now (rx .exit)) (now (msg .exit)) (now (out .exit)) r ≡ totalRead (now (rec .entry)) (now (rx .entry)) (now (msg .entry)) (now (lent .entry)) count (now (out .entry)) ⌝ }
+{
+    if rec.len() != CARD {
+        return AWAY;
+    }
+    if out.len() < REPLY {
+        return AWAY;
+    }
+    let before = u64_at(rec, RECEIVED);
+    if over_read(rec, before, rx.len(), msg.len(), lent.len(), count) {
+        put_three(out, OTHER, 0, 0);
+        return OVER;
+    }
+    let n = session_read(&mut rec[..SIZE], rx, msg, lent, count, out);
+    if refuses(n) {
+        return n;
+    }
+    let received = before + count as u64;
+    put_u64(rec, RECEIVED, received);
+    settle(rec, received, n, out);
+    n
+}
+
+// The write or the close that was asked for was accepted: the length of its piece is added to the bytes written, a close adds 0. 21 likewise.
+pub fn total_wrote(
+    rec: &mut [u8],
+    rx: &mut [u8],
+    msg: &mut [u8],
+    lent: &[u8],
+    out: &mut [u8],
+) -> u32
+    ensures { λ r. ⌜ crossed (now (rec .exit)) (now (rx .exit)) (now (msg .exit)) (now (out .exit)) r ≡ totalWrote (now (rec .entry)) (now (rx .entry)) (now (msg .entry)) (now (lent .entry)) (now (out .entry)) ⌝ }
+{
+    if rec.len() != CARD {
+        return AWAY;
+    }
+    if out.len() < REPLY {
+        return AWAY;
+    }
+    let received = u64_at(rec, RECEIVED);
+    let before = u64_at(rec, WRITTEN);
+    let asked = u64_at(rec, ASKED);
+    if over_wrote(rec, before, asked, rx.len(), msg.len(), lent.len()) {
+        put_three(out, OTHER, 0, 0);
+        return OVER;
+    }
+    let n = session_wrote(&mut rec[..SIZE], rx, msg, lent, out);
+    if refuses(n) {
+        return n;
+    }
+    let written = before + asked;
+    put_u64(rec, WRITTEN, written);
+    settle(rec, received, n, out);
+    n
+}
+
+// What was asked for came to a fault: no total is added to.
+pub fn total_fault(
+    rec: &mut [u8],
+    rx: &mut [u8],
+    msg: &mut [u8],
+    lent: &[u8],
+    kind: u32,
+    code: u32,
+    out: &mut [u8],
+) -> u32
+    ensures { λ r. ⌜ crossed (now (rec .exit)) (now (rx .exit)) (now (msg .exit)) (now (out .exit)) r ≡ totalFault (now (rec .entry)) (now (rx .entry)) (now (msg .entry)) (now (lent .entry)) kind code (now (out .entry)) ⌝ }
+{
+    if rec.len() != CARD {
+        return AWAY;
+    }
+    if out.len() < REPLY {
+        return AWAY;
+    }
+    let received = u64_at(rec, RECEIVED);
+    let n = session_fault(&mut rec[..SIZE], rx, msg, lent, kind, code, out);
+    if refuses(n) {
+        return n;
+    }
+    settle(rec, received, n, out);
+    n
+}
