@@ -1,8 +1,8 @@
 -- A record with totals, taken apart: the session's bytes in front, four numbers behind them.
 -- Assumes nothing.
-use Prim.Native.Nat.{ℕ, zero, suc, _+_, _-_, _*_, _<_}
+use Prim.Native.Nat.{ℕ, zero, suc, _+_, _-_, _*_, _/_, _%_, _^_, _≤_, _<_}
 use mathlib.Core.List.{List, [], _∷_, _++_}
-use mathlib.Core.Path.{_≡_, sym, ap, _∙_}
+use mathlib.Core.Path.{_≡_, refl, sym, ap, _∙_}
 use native.Mathlib.Omega.{arith}
 use borrow.Author.Tests.{le-leb}
 use lib.ListN.{length, take, drop, getD, length-append}
@@ -13,7 +13,7 @@ use Rattle.protocol.proofs.Words.{number-behind}
 use Rattle.record.specs.Record.{words, wordOf, size}
 use Rattle.record.proofs.Words.{length-words}
 use Rattle.session.proofs.Buf.{number-in}
-use Rattle.totals.specs.Crossing.{recordSize, receivedOf, consumedOf, writtenOf, askedOf, heldOf, limit}
+use Rattle.totals.specs.Crossing.{recordSize, receivedOf, consumedOf, writtenOf, askedOf, limit, totalling}
 
 -- a number of a list, whatever the others are
 word-of : (ns : List ℕ) (i : ℕ) → getD ns i 0 < limit → wordOf (words ns) i ≡ getD ns i 0
@@ -23,6 +23,28 @@ word-of (n ∷ ns) zero h = ap le (take-append-seam (bytesOf 8 n) (words ns)) �
 word-of (n ∷ ns) (suc i) h =
     let e : 8 * suc i ≡ length (bytesOf 8 n) + 8 * i = omega (arith, length-bytesOf 8 n) in
     ap (λ (k : ℕ). numberAt 8 k (bytesOf 8 n ++ words ns)) e ∙ number-behind 8 (bytesOf 8 n) (words ns) (8 * i) ∙ word-of ns i h
+
+-- ---- 64 bits of a number
+
+bytes-over : (k d : ℕ) → bytesOf k (256 ^ k + d) ≡ bytesOf k d
+bytes-over zero d = refl
+bytes-over (suc k) d =
+    let m : (256 ^ suc k + d) % 256 ≡ d % 256 = omega arith in
+    let q : (256 ^ suc k + d) / 256 ≡ 256 ^ k + d / 256 = omega arith in
+    rw (m, q, bytes-over k (d / 256))
+
+pub bytes-wrapped : (d : ℕ) → bytesOf 8 (limit + d) ≡ bytesOf 8 d
+bytes-wrapped d = bytes-over 8 d
+
+-- the bytes that a session holds: tail less head
+abbrev pub heldOf : List ℕ → ℕ
+heldOf rec = wordOf rec 3 - wordOf rec 2
+
+-- where head is not past tail, and no more is held than was received
+pub totalling-is : (x : List ℕ) (r n a : ℕ) → wordOf x 2 ≤ wordOf x 3 → heldOf x ≤ r → totalling x r n a ≡ x ++ words (r ∷ (r - heldOf x) ∷ n ∷ a ∷ [])
+totalling-is x r n a h l =
+    let e : limit + r + wordOf x 2 - wordOf x 3 ≡ limit + (r - heldOf x) = omega arith in
+    ap (λ (b : List ℕ). x ++ (bytesOf 8 r ++ (b ++ words (n ∷ a ∷ [])))) (ap (bytesOf 8) e ∙ bytes-wrapped (r - heldOf x))
 
 -- the session's numbers, whatever stands behind them
 pub in-front : (x own : List ℕ) → length x ≡ size → (i : ℕ) → i < 32 → wordOf (x ++ own) i ≡ wordOf x i
@@ -61,6 +83,3 @@ module _ (x : List ℕ) (e : length x ≡ size) (r d n a : ℕ) where
 
   pub whole-asked : a < limit → askedOf whole ≡ a
   whole-asked h = behind 3 h
-
-  pub whole-held : heldOf whole ≡ heldOf x
-  whole-held = rw (in-front x (words own) e 2 (omega arith), in-front x (words own) e 3 (omega arith))

@@ -22,16 +22,16 @@ use Rattle.boundary.specs.Crossing.{Crossed, crossed, OpenCrossed, crossOpen}
 use Rattle.boundary.specs.Heard.{answerHeard, heard}
 use Rattle.boundary.specs.Told.{replyNumber}
 use Rattle.boundary.proofs.Reports.{NarrowRefusal, lets, by-number, by-feature}
-use Rattle.boundary_misuse.specs.Claim.{heardOf, IsRefused, Answers, seenAfter, follow}
+use Rattle.boundary_misuse.specs.Claim.{heardOf, Answers, seenAfter, follow}
 use Rattle.boundary_misuse.specs.Misuse.{Act, start, report, hasRead, wrote, fault, Event, Wide, AllWide, acted, Seen, opened, misfits, otherLent, awaited, outside, refusedAt, refusal}
 use Rattle.boundary_misuse.proofs.Known.{Knows, knows}
 use Rattle.boundary_misuse.proofs.Misuse.{IsSome, known-step, opened-known}
 use Rattle.boundary_misuse.proofs.Table.{table-narrow}
 use Rattle.totals.specs.Card.{totalActed, totalBy, Sums, noSums, adds, sumsAfter, Shows, passes, refusedBy, AnswersBy, EveryMoment, CardClaim}
-use Rattle.totals.specs.Crossing.{recordSize, limit, overflowed, receivedOf, consumedOf, writtenOf, askedOf, heldOf, refuses, pieceAsked, totalling, withTotals, overflowing, totalled, openTotals, totalOpen, totalStart, totalRead, totalWrote, totalFault}
+use Rattle.totals.specs.Crossing.{recordSize, limit, overflowed, receivedOf, consumedOf, writtenOf, askedOf, refuses, pieceAsked, totalling, withTotals, overflowing, totalled, totalOpen, totalStart, totalRead, totalWrote, totalFault}
 use Rattle.totals.proofs.Asks.{acted-small}
-use Rattle.totals.proofs.Behind.{in-front, whole-size, whole-inner, whole-own, whole-received, whole-consumed, whole-written, whole-asked}
-use Rattle.totals.proofs.Consumed.{gain, held-event, held-counted, event-number, open-held}
+use Rattle.totals.proofs.Behind.{heldOf, totalling-is, in-front, whole-size, whole-inner, whole-own, whole-received, whole-consumed, whole-written, whole-asked}
+use Rattle.totals.proofs.Consumed.{gain, held-event, held-counted, known-order, event-number, open-held}
 use Rattle.totals.proofs.Layer.{asks-same, fitting}
 use Rattle.totals.proofs.Sizes.{acted-sized}
 
@@ -73,7 +73,7 @@ known-size (knows s sh own asked) = stored-length s
 record Holds (s : Seen) (t : Sums) (rec : List ℕ) : Type 0 where
   x : List ℕ
   a : ℕ
-  is : rec ≡ totalling x (t .received) (t .written) a
+  is : rec ≡ x ++ words (t .received ∷ (t .received - heldOf x) ∷ t .written ∷ a ∷ [])
   sized : length x ≡ size
   received : t .received < limit
   written : t .written < limit
@@ -204,6 +204,9 @@ module _ (s : Seen) (t : Sums) (rec : List ℕ) (h : Holds s t rec) where
       unfolding heard answerHeard replyNumber
       over-result = ((refl, refl, (refl, refl, refl)), h)
 
+      in-held : heldOf (c .rec) ≤ t′ .received
+      in-held = omega (arith, held-event s (h .x) e (h .knows) w z, h .held, gains (e .act))
+
       -- the totals are those added up
       in-result : t′ .received < limit → t′ .written < limit → Result none (by false)
       in-result p q =
@@ -212,14 +215,14 @@ module _ (s : Seen) (t : Sums) (rec : List ℕ) (h : Holds s t rec) where
             record {
               x = c .rec;
               a = pieceAsked (heardOf c) (askedOf rec);
-              is = refl;
+              is = totalling-is (c .rec) (t′ .received) (t′ .written) (pieceAsked (heardOf c) (askedOf rec)) (known-order g) in-held;
               sized = acted-sized (h .x) (h .sized) e (e .act) .size-same;
               received = p;
               written = q;
               recalls = rw l (asks-same (heardOf c) (askedOf rec));
               asking = rw l (acted-small (h .x) e (w .out) (e .act));
               knows = g;
-              held = omega (arith, held-event s (h .x) e (h .knows) w z, h .held, gains (e .act));
+              held = in-held;
             },
           )
 
@@ -269,15 +272,18 @@ module _ (rec settings banner : List ℕ) (c m : ℕ) (wide : m < 2 ^ 63) where
       record {
         x = o .rec;
         a = 0;
-        is = rec-is z;
+        is = rec-is z ∙ totalling-is (o .rec) 0 0 0 (known-order (opened-known inside settings banner c m wide z)) held-none;
         sized = known-size (opened-known inside settings banner c m wide z);
         received = omega arith;
         written = omega arith;
         recalls = λ w. absurd w;
         asking = omega arith;
         knows = opened-known inside settings banner c m wide z;
-        held = omega (arith, open-held inside settings banner c m z);
+        held = held-none;
       }
+    where
+      held-none : heldOf (o .rec) ≤ 0
+      held-none = omega (arith, open-held inside settings banner c m z)
 
 pub card : CardClaim
 card rec settings banner c m wide z es v =

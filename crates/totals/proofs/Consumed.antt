@@ -34,7 +34,7 @@ use Rattle.boundary_misuse.proofs.Known.{Knows, knows}
 use Rattle.boundary_misuse.proofs.Misuse.{outOf, crosses, let-in, room-of, lent-some}
 use Rattle.boundary_misuse.proofs.Table.{reported}
 use Rattle.boundary_misuse.proofs.Unchanged.{told-number}
-use Rattle.totals.specs.Crossing.{heldOf}
+use Rattle.totals.proofs.Behind.{heldOf}
 use Rattle.totals.proofs.Held.{Leaves, numbered-in, read-in, wrote-in, fault-in}
 
 -- the count of a read
@@ -55,6 +55,10 @@ held-counted v x rx (knows s sh own asked) l =
     let w = word-words (fields s) (fields-wide s (own .narrow)) in
     let f = own .fits in
     rw (w 2, w 3) (held-length rx (s .buf) (record { ordered = f .order; within = omega (arith, f .inside) }))
+
+pub known-order : {v : Seen} {x : List ℕ} → Knows v x → wordOf x 2 ≤ wordOf x 3
+unfolding stored fields
+known-order (knows s sh own asked) = let w = word-words (fields s) (fields-wide s (own .narrow)) in rw (w 2, w 3) (own .fits .order)
 
 held-back : (s : Session) (out : List ℕ) (o : Out) (n : ℕ) → Narrow s → Narrow (o .st .ses) → heldCount (s .buf) ≤ n → Leaves n o → heldOf (back (stored s) out o .rec) ≤ n
 held-back s out o n w w′ h l =

@@ -8,7 +8,6 @@ use native.Mathlib.Omega.{arith}
 use lib.Dec.{eqb, leb, ltb}
 use lib.ListN.{length}
 use Rattle.protocol.specs.Answers as P
-use Rattle.protocol.specs.Bytes.{pick, put}
 use Rattle.protocol.specs.Refusal.{requestRefusal}
 use Rattle.protocol.specs.Messages.{bytesOfRequest}
 use Rattle.protocol.proofs.Bodies.{pick-cases}
@@ -36,7 +35,7 @@ use Rattle.session.specs.declared.Version.{Version}
 use Rattle.session.specs.declared.Version.the-variants.{V1, V2}
 use Rattle.session.specs.declared.Want.the-variants as W
 use Rattle.session.specs.Phases.{wants}
-use Rattle.boundary.specs.Crossing.{requestNumbered, stepNumbered, callNumbered, unknownCall}
+use Rattle.boundary.specs.Crossing.{requestNumbered, callNumbered, unknownCall}
 
 count-compacted : (b : List ℕ) (c : RecvBuf) → heldCount (compacted b c .1) ≤ heldCount c
 unfolding compacted

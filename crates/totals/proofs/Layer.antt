@@ -1,13 +1,13 @@
 -- The exported functions are a layer around the session: each step is the step of the session inside, as long as fewer bytes than the limit come
 -- and are written. So what is claimed against every host, and demand 3, hold of them.
 -- Assumes nothing.
-use Prim.Native.Nat.{ℕ, _+_, _-_, _/_, _%_, _≤_, _<_}
+use Prim.Native.Nat.{ℕ, _+_, _-_, _%_, _≤_, _<_}
 use mathlib.Core.Bool.{Bool, true, false, _&&_, _||_, not}
 use mathlib.Core.List.{List, [], _∷_, _++_}
 use mathlib.Core.Path.{_≡_, refl, sym, ap, _∙_}
 use native.Mathlib.Omega.{arith}
 use borrow.Author.Tests.{eq-eqb, eqb-true, lt-leb}
-use lib.Dec.{eqb, leb, ltb}
+use lib.Dec.{eqb, leb}
 use lib.ListN.{length, take, drop, length-drop}
 use lib.Seq.{length-take-le}
 use Rattle.protocol.specs.Answers.{done}
@@ -22,12 +22,12 @@ use Rattle.session.proofs.Demand3.{claimed}
 use Rattle.session_layer.specs.Layer.{asked, Writes, Account, reading, writing, Alike, Layer, Around, atOpening}
 use Rattle.session_layer.proofs.Claims.{narrower, carried}
 use Rattle.boundary.specs.Boundary.{callNumber, firstNumber, flagNumber, endKind, endCode, stepOf, recorded, boundary}
-use Rattle.boundary.specs.Crossing.{Crossed, crossed, OpenCrossed, crossOpen, crossStart, crossRead, crossWrote, crossFault}
+use Rattle.boundary.specs.Crossing.{Crossed, OpenCrossed, crossOpen}
 use Rattle.boundary.specs.Heard.{heard}
 use Rattle.boundary.proofs.Demand3.{every-host}
-use Rattle.totals.specs.Crossing.{recordSize, receivedOf, writtenOf, askedOf, heldOf, limit, refuses, pieceAsked, totalling, withTotals, overflowing, totalled, onRecord, openTotals, totalOpen, totalStart, totalRead, totalWrote, totalFault}
+use Rattle.totals.specs.Crossing.{recordSize, receivedOf, writtenOf, askedOf, limit, refuses, pieceAsked, totalling, withTotals, overflowing, totalled, onRecord, openTotals, totalOpen, totalStart, totalRead, totalWrote, totalFault}
 use Rattle.totals.specs.System.{counting, totals}
-use Rattle.totals.proofs.Behind.{whole, whole-size, whole-inner, whole-own, whole-received, whole-written, whole-asked, in-front}
+use Rattle.totals.proofs.Behind.{whole-size, whole-inner, whole-own, whole-received, whole-written, whole-asked, in-front}
 use Rattle.totals.proofs.Sizes.{Sized, sized-start, sized-read, sized-wrote, sized-fault, open-size}
 
 -- ---- the relation
@@ -116,7 +116,7 @@ module _ (l : Account) (sh : Show) (y x : List ℕ) (k : Keeps l sh y x) where
     keeps false f =
         record {
           r = r′;
-          d = r′ - heldOf (c .rec);
+          d = limit + r′ + wordOf (c .rec) 2 - wordOf (c .rec) 3;
           n = n′;
           a = pieceAsked says (askedOf y);
           is = refl;
@@ -191,7 +191,7 @@ module _ (y : List ℕ) (p : length y ≡ recordSize) (t : Opening) (rx msg : Li
   opened-keeps incoming e b =
       record {
         r = 0;
-        d = 0 - heldOf (o .rec);
+        d = limit + 0 + wordOf (o .rec) 2 - wordOf (o .rec) 3;
         n = 0;
         a = 0;
         is = ap (λ (z : OpenCrossed). z .rec) opens-as ∙ rw (eq-eqb (o .number) 0 e);

@@ -48,10 +48,6 @@ writtenOf rec = wordOf rec writtenAt
 abbrev pub askedOf : List ℕ → ℕ
 askedOf rec = wordOf rec askedAt
 
--- bytes received and not consumed: tail less head
-abbrev pub heldOf : List ℕ → ℕ
-heldOf rec = wordOf rec 3 - wordOf rec 2
-
 -- ---- a step
 
 -- a total is below this
@@ -75,9 +71,9 @@ pieceAsked (writeLent at len) n = len
 pieceAsked (writeBytes b) n = length b
 pieceAsked close n = 0
 
--- a session with these totals behind it; consumed is received less what is held
+-- a session with these totals behind it; consumed is received less what is held, tail less head, of which `words` keeps 64 bits
 abbrev pub totalling : (session : List ℕ) → (received written asked : ℕ) → List ℕ
-totalling x r n a = x ++ words (r ∷ (r - heldOf x) ∷ n ∷ a ∷ [])
+totalling x r n a = x ++ words (r ∷ (limit + r + wordOf x 2 - wordOf x 3) ∷ n ∷ a ∷ [])
 
 -- c is the step of the session inside: refused, the numbers behind it stay; else these are the totals
 abbrev pub withTotals : (rec : List ℕ) → (received written : ℕ) → Crossed → Crossed

@@ -20,7 +20,7 @@ use Rattle.session.specs.Host.{Show, told, read, writeRx, writeLent, writeBytes
 use Rattle.boundary.specs.Crossing.{Crossed, crossed}
 use Rattle.boundary_misuse.specs.Misuse.{Act, start, report, hasRead, wrote, fault, Event, Seen}
 use Rattle.totals.specs.Card.{totalBy, Sums, adds, sumsAfter, Shows, refusedBy, AnswersBy}
-use Rattle.totals.specs.Crossing.{recordSize, limit, overflowed, receivedOf, consumedOf, writtenOf, heldOf, totalOpen}
+use Rattle.totals.specs.Crossing.{recordSize, limit, overflowed, receivedOf, consumedOf, writtenOf, totalOpen}
 
 -- ---- the sums: "the sum of the counts reported by accepted reads, written the sum of accepted piece lengths"
 
@@ -114,7 +114,6 @@ places =
     ∷ numbered (receivedOf marked) 513
     ∷ numbered (consumedOf marked) 1027
     ∷ numbered (writtenOf marked) 9223372036854777349
-    ∷ numbered (heldOf (words (16 ∷ 20 ∷ 30 ∷ 70 ∷ []))) 40
     ∷ []
 
 -- "3 for a record of another length", behind 1 and 2 (DECISIONS 70)

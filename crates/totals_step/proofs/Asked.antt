@@ -1,15 +1,15 @@
 -- The length of the piece that was last asked, by the number of a reply. Assumes nothing.
-use Prim.Native.Nat.{ℕ, _-_, _%_, _≤_, _<_}
+use Prim.Native.Nat.{ℕ, _+_, _%_, _≤_, _<_}
 use mathlib.Core.Bool.{Bool, true, false}
 use mathlib.Core.List.{List}
-use mathlib.Core.Path.{_≡_, refl, sym, ap, _∙_}
+use mathlib.Core.Path.{_≡_, refl, sym, _∙_}
 use native.Mathlib.Decide.{decLe, ℕ-discrete}
 use native.Mathlib.Nat.{lt-of-not-le}
 use native.Mathlib.Omega.{arith}
 use borrow.Author.Tests.{ne-eqb}
 use lib.Dec.{eqb}
 use lib.ListN.{length, take, drop, length-drop}
-use lib.Seq.{length-take-le, take-all}
+use lib.Seq.{length-take-le}
 use Rattle.protocol.specs.Answers.{Answer}
 use Rattle.protocol.specs.Bytes.{pick}
 use Rattle.boundary.specs.Heard.{at, heard}
@@ -63,13 +63,9 @@ module _ (n : ℕ) (out : List ℕ) (b : ℕ) where
   unfolding askedBy heard
   asks-bytes e = rw e
 
-  -- as many bytes as are said, or as there are
-  pub asks-said : {k : ℕ} → n % 256 ≡ 4 → k ≡ at out 0 → k ≤ length out - 8 → k ≡ askedBy n out b
+  -- as many bytes as are said, where they stand there
+  pub asks-said : {k : ℕ} → n % 256 ≡ 4 → k ≡ at out 0 → 8 + at out 0 ≤ length out → k ≡ askedBy n out b
   asks-said e f h = f ∙ sym (asks-bytes e ∙ length-take-le (at out 0) (drop 8 out) (omega (arith, length-drop 8 out)))
-
-  pub asks-all : {k : ℕ} → n % 256 ≡ 4 → k ≡ at out 0 → length out - 8 ≤ k → length out - 8 ≡ askedBy n out b
-  asks-all e f h =
-      sym (asks-bytes e ∙ ap length (take-all (at out 0) (drop 8 out) (omega (arith, length-drop 8 out))) ∙ length-drop 8 out)
 
   pub asks-close : 4 < n % 256 → askedBy n out b ≡ 0
   unfolding askedBy heard

@@ -1,19 +1,20 @@
 -- The four numbers behind a session's bytes: as they are read, and one of them put. Assumes nothing.
 use Prim.Native.Nat.{ℕ, _+_, _-_, _*_, _%_, _≤_, _<_}
 use mathlib.Core.List.{List, [], _∷_, _++_, append-assoc}
-use mathlib.Core.Path.{_≡_, refl, sym, ap, ap₂, _∙_}
-use native.Mathlib.Nat.{add-assoc}
+use mathlib.Core.Path.{_≡_, sym, ap, ap₂, _∙_}
+use native.Mathlib.Decide.{decLe}
+use native.Mathlib.Nat.{add-assoc, lt-of-not-le}
 use native.Mathlib.Omega.{arith}
 use lib.ListN.{length, take, drop, set, length-append, take-append-drop}
 use lib.Seq.{length-take-le, take-append-add, drop-append-add}
 use Rattle.protocol.specs.Bytes.{Bytes, bytesOf, over, put}
 use Rattle.protocol.proofs.Bytes.{put-in, length-bytesOf}
 use Rattle.protocol.proofs.Words.{number-below}
-use Rattle.record.specs.Record.{words, size}
+use Rattle.record.specs.Record.{words, wordOf, size}
 use Rattle.record.proofs.Words.{length-words, put-whole, put-word, numbersFrom, words-from}
 use Rattle.boundary.specs.Heard.{heard}
-use Rattle.totals.specs.Crossing.{recordSize, receivedOf, consumedOf, writtenOf, askedOf, heldOf, limit, pieceAsked, totalling}
-use Rattle.totals.proofs.Behind.{whole-held, whole-asked}
+use Rattle.totals.specs.Crossing.{recordSize, receivedOf, consumedOf, writtenOf, askedOf, limit, pieceAsked, totalling}
+use Rattle.totals.proofs.Behind.{heldOf, bytes-wrapped, totalling-is, in-front, whole-received, whole-asked}
 use Rattle.totals_step.specs.Settled.{askedBy, settledBy}
 use Rattle.totals_step.proofs.Asked.{asks-alike, asks-none, asks-new}
 
@@ -69,25 +70,58 @@ again rec t e b =
     ap (λ (l : List ℕ). put l 264 (bytesOf 8 t)) (split rec e b) ∙ put-consumed x f r d n a t in
     ap (λ (l : List ℕ). put l 280 (bytesOf 8 a)) one ∙ put-asked x f r t n a a ∙ sym one
 
--- what the code settles: consumed alone where nothing is asked to be written, else both
-module _ {y : List ℕ} (rec : List ℕ) (r d m : ℕ) (out : List ℕ) (p : y ≡ put rec 264 (bytesOf 8 d)) (e : d ≡ r - heldOf rec) where
-  pub settled-one : length rec ≡ recordSize → Bytes rec → m % 256 < 2 → y ≡ settledBy rec r m out
-  unfolding settledBy
-  settled-one f b h = p ∙ rw (asks-none m out (askedOf rec) h, e) (sym (again rec (r - heldOf rec) f b))
+-- a sum less another number, of which 64 bits are kept
+pub wraps : (r h t d : ℕ) → r < limit → h < limit → t < limit → d < limit → (d + t) % limit ≡ (r + h) % limit → bytesOf 8 d ≡ bytesOf 8 (limit + r + h - t)
+wraps r h t d p q u v e = go (decLe limit (limit + r + h - t)) (decLe (limit + limit) (limit + r + h - t))
+  where
+    go : Dec (limit ≤ limit + r + h - t) → Dec (limit + limit ≤ limit + r + h - t) → bytesOf 8 d ≡ bytesOf 8 (limit + r + h - t)
+    go a (yes b) =
+        let f : limit + (limit + d) ≡ limit + r + h - t = omega arith in
+        sym (bytes-wrapped (limit + d) ∙ bytes-wrapped d) ∙ ap (bytesOf 8) f
+    go (yes a) (no b) =
+        let k = lt-of-not-le b in
+        let f : limit + d ≡ limit + r + h - t = omega arith in
+        sym (bytes-wrapped d) ∙ ap (bytesOf 8) f
+    go (no a) (no b) =
+        let k = lt-of-not-le a in
+        let f : d ≡ limit + r + h - t = omega arith in
+        ap (bytesOf 8) f
 
-  pub settled-two : {z : List ℕ} {a : ℕ} → 2 ≤ m % 256 → a ≡ askedBy m out 0 → z ≡ put y 280 (bytesOf 8 a) → z ≡ settledBy rec r m out
+-- what the code settles: consumed alone where nothing is asked to be written, else both
+module _ {y : List ℕ} (rec : List ℕ) (d m : ℕ) (out : List ℕ) (p : y ≡ put rec 264 (bytesOf 8 d))
+    (e : bytesOf 8 d ≡ bytesOf 8 (limit + receivedOf rec + wordOf rec 2 - wordOf rec 3)) where
+  abbrev left : ℕ
+  left = limit + receivedOf rec + wordOf rec 2 - wordOf rec 3
+
+  consumed-put : y ≡ put rec 264 (bytesOf 8 left)
+  consumed-put = p ∙ ap (put rec 264) e
+
+  pub settled-one : length rec ≡ recordSize → Bytes rec → m % 256 < 2 → y ≡ settledBy rec m out
   unfolding settledBy
-  settled-two h f q = q ∙ rw (p, e, f, asks-new m out 0 (askedOf rec) h)
+  settled-one f b h = consumed-put ∙ rw (asks-none m out (askedOf rec) h) (sym (again rec left f b))
+
+  pub settled-two : {z : List ℕ} {a : ℕ} → 2 ≤ m % 256 → a ≡ askedBy m out 0 → z ≡ put y 280 (bytesOf 8 a) → z ≡ settledBy rec m out
+  unfolding settledBy
+  settled-two h f q = q ∙ rw (consumed-put, f, asks-new m out 0 (askedOf rec) h)
 
 -- what a step settles, on a record whose session is x then
-settles : {y z : List ℕ} {k : ℕ} (x : List ℕ) → length x ≡ size → (r d n a m : ℕ) (out rx msg : List ℕ) → a < limit
-    → y ≡ x ++ words (r ∷ d ∷ n ∷ a ∷ []) → k ≡ r → z ≡ settledBy y k m out → z ≡ totalling x r n (pieceAsked (heard m out rx msg) a)
+settles : {y z : List ℕ} (x : List ℕ) → length x ≡ size → (r d n a m : ℕ) (out rx msg : List ℕ) → r < limit → a < limit
+    → y ≡ x ++ words (r ∷ d ∷ n ∷ a ∷ []) → z ≡ settledBy y m out → z ≡ totalling x r n (pieceAsked (heard m out rx msg) a)
 unfolding settledBy
-settles x e r d n a m out rx msg h f g p =
-    let left : ℕ = r - heldOf x in
+settles x e r d n a m out rx msg l h f p =
+    let own : List ℕ = words (r ∷ d ∷ n ∷ a ∷ []) in
+    let left : ℕ = limit + r + wordOf x 2 - wordOf x 3 in
     p
-    ∙ ap₂ (λ (l : List ℕ) (i : ℕ). settledBy l i m out) f g
-    ∙ rw (whole-held x e r d n a, whole-asked x e r d n a h, put-consumed x e r d n a left, put-asked x e r left n a (askedBy m out a), asks-alike m out rx msg a)
+    ∙ ap (λ (l : List ℕ). settledBy l m out) f
+    ∙ rw (
+      whole-received x e r d n a l,
+      in-front x own e 2 (omega arith),
+      in-front x own e 3 (omega arith),
+      whole-asked x e r d n a h,
+      put-consumed x e r d n a left,
+      put-asked x e r left n a (askedBy m out a),
+      asks-alike m out rx msg a,
+    )
 
 module _ (rec : List ℕ) (here : length rec ≡ recordSize) (bytes : Bytes rec) (x : List ℕ) (e : length x ≡ size) (m : ℕ) (out rx msg : List ℕ) where
   abbrev now-asked : ℕ
@@ -96,35 +130,40 @@ module _ (rec : List ℕ) (here : length rec ≡ recordSize) (bytes : Bytes rec)
   behind : x ++ drop size rec ≡ x ++ words (receivedOf rec ∷ consumedOf rec ∷ writtenOf rec ∷ askedOf rec ∷ [])
   behind = ap (λ (l : List ℕ). x ++ l) (own-words rec here bytes)
 
+  received-below : receivedOf rec < limit
+  received-below = number-below 8 rec 256 bytes
+
   asked-below : askedOf rec < limit
   asked-below = number-below 8 rec 280 bytes
 
   -- nothing is added, or another number received or written
-  pub settles-same : {k : ℕ} {z : List ℕ} → k ≡ receivedOf rec → z ≡ settledBy (x ++ drop size rec) k m out
-      → z ≡ totalling x (receivedOf rec) (writtenOf rec) now-asked
-  settles-same g p = settles x e (receivedOf rec) (consumedOf rec) (writtenOf rec) (askedOf rec) m out rx msg asked-below behind g p
+  pub settles-same : {z : List ℕ} → z ≡ settledBy (x ++ drop size rec) m out → z ≡ totalling x (receivedOf rec) (writtenOf rec) now-asked
+  settles-same p =
+      settles x e (receivedOf rec) (consumedOf rec) (writtenOf rec) (askedOf rec) m out rx msg received-below asked-below behind p
 
-  pub settles-read : {k r : ℕ} {y z : List ℕ} → k ≡ r → y ≡ put (x ++ drop size rec) 256 (bytesOf 8 k) → z ≡ settledBy y k m out
+  pub settles-read : {k r : ℕ} {y z : List ℕ} → k ≡ r → r < limit → y ≡ put (x ++ drop size rec) 256 (bytesOf 8 k) → z ≡ settledBy y m out
       → z ≡ totalling x r (writtenOf rec) now-asked
-  settles-read {r = r} g q p =
-      settles x e r (consumedOf rec) (writtenOf rec) (askedOf rec) m out rx msg asked-below
+  settles-read {r = r} g h q p =
+      settles x e r (consumedOf rec) (writtenOf rec) (askedOf rec) m out rx msg h asked-below
       (q
       ∙ ap₂ (λ (l : List ℕ) (i : ℕ). put l 256 (bytesOf 8 i)) behind g
-      ∙ put-received x e (receivedOf rec) (consumedOf rec) (writtenOf rec) (askedOf rec) r) g p
+      ∙ put-received x e (receivedOf rec) (consumedOf rec) (writtenOf rec) (askedOf rec) r) p
 
-  pub settles-wrote : {k w n : ℕ} {y z : List ℕ} → k ≡ receivedOf rec → w ≡ n → y ≡ put (x ++ drop size rec) 272 (bytesOf 8 w) → z ≡ settledBy y k m out
+  pub settles-wrote : {w n : ℕ} {y z : List ℕ} → w ≡ n → y ≡ put (x ++ drop size rec) 272 (bytesOf 8 w) → z ≡ settledBy y m out
       → z ≡ totalling x (receivedOf rec) n now-asked
-  settles-wrote {n = n} g f q p =
-      settles x e (receivedOf rec) (consumedOf rec) n (askedOf rec) m out rx msg asked-below
+  settles-wrote {n = n} f q p =
+      settles x e (receivedOf rec) (consumedOf rec) n (askedOf rec) m out rx msg received-below asked-below
       (q
       ∙ ap₂ (λ (l : List ℕ) (i : ℕ). put l 272 (bytesOf 8 i)) behind f
-      ∙ put-written x e (receivedOf rec) (consumedOf rec) (writtenOf rec) (askedOf rec) n) g p
+      ∙ put-written x e (receivedOf rec) (consumedOf rec) (writtenOf rec) (askedOf rec) n) p
 
--- all totals 0
-pub put-none : {y : List ℕ} (x w : List ℕ) → length x ≡ size → length w ≡ 32 → y ≡ put (x ++ w) 256 (words (0 ∷ 0 ∷ 0 ∷ 0 ∷ [])) → y ≡ totalling x 0 0 0
-put-none x w e f p =
+-- all totals 0, where the session holds nothing
+pub put-none : {y : List ℕ} (x w : List ℕ) → length x ≡ size → length w ≡ 32 → wordOf x 2 ≡ wordOf x 3 → y ≡ put (x ++ w) 256 (words (0 ∷ 0 ∷ 0 ∷ 0 ∷ []))
+    → y ≡ totalling x 0 0 0
+put-none x w e f g p =
     let z : 0 - heldOf x ≡ 0 = omega arith in
     p
     ∙ put-behind x w (words (0 ∷ 0 ∷ 0 ∷ 0 ∷ [])) 0 256 (omega arith) (omega arith)
     ∙ ap (λ (l : List ℕ). x ++ l) (put-whole w (words (0 ∷ 0 ∷ 0 ∷ 0 ∷ [])) f)
-    ∙ rw z
+    ∙ ap (λ (i : ℕ). x ++ words (0 ∷ i ∷ 0 ∷ 0 ∷ [])) (sym z)
+    ∙ sym (totalling-is x 0 0 0 (omega arith) (omega arith))

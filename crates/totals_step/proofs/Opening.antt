@@ -1,20 +1,22 @@
 -- The cases of opening into a record with totals. Assumes nothing.
 use Prim.Native.Nat.{ℕ}
-use mathlib.Core.List.{List, [], _∷_, _++_}
-use mathlib.Core.Path.{_≡_, refl, sym, ap, ap₂, _∙_}
+use mathlib.Core.List.{List, [], _++_}
+use mathlib.Core.Path.{_≡_, refl, sym, ap, ap₂, subst, _∙_}
 use native.Mathlib.Omega.{arith}
 use borrow.Author.Tests.{eq-eqb, ne-eqb, ltb-true}
 use lib.Dec.{eqb, ltb}
 use lib.ListN.{length, take, drop, take-append-drop}
-use Rattle.protocol.specs.Bytes.{pick, put}
+use Rattle.protocol.specs.Bytes.{numberAt}
 use Rattle.protocol.specs.Features as P
 use Rattle.protocol.proofs.Bodies.{pick-cases}
 use Rattle.boundary.specs.Crossing.{OpenCrossed, openedWith, crossOpen}
+use Rattle.boundary_misuse.proofs.Misuse.{lent-some}
 use Rattle.boundary_step.specs.Opened.{openCrossed}
 use Rattle.id_table.specs.Settings.{lentIn}
 use Rattle.id_table.specs.declared.Lent.{Lent}
 use Rattle.id_table.specs.declared.Lent.the-variants as L
-use Rattle.record.specs.Record.{size, words}
+use Rattle.record.specs.Record.{size, wordOf, stored}
+use Rattle.record.specs.Fields.{fields}
 use Rattle.session.specs.Calls.{openRefusal}
 use Rattle.session.specs.Core.{featuresFrom}
 use Rattle.totals.specs.Crossing.{recordSize, totalling, openTotals, totalOpen}
@@ -33,6 +35,21 @@ module _ (rec settings banner : List ℕ) (rx msg : ℕ) where
       go : (t : Lent) → S (openedWith rec (featuresFrom (P.featuresOf banner)) rx msg t)
       go (L.Ids t) f = absurd (f refl)
       go (L.Refused n) f = refl
+
+-- a session that is opened holds nothing
+holds-none : (rec settings banner : List ℕ) (rx msg : ℕ) → crossOpen rec settings banner rx msg .number ≡ 0
+    → wordOf (crossOpen rec settings banner rx msg .rec) 2 ≡ wordOf (crossOpen rec settings banner rx msg .rec) 3
+unfolding crossOpen stored fields numberAt
+holds-none rec settings banner rx msg =
+    pick-cases H (ltb 0 (openRefusal rx msg)) (λ e z. absurd (omega (arith, ltb-true 0 (openRefusal rx msg) e)))
+    (λ _. pick-cases H (eqb (length rec) size) (λ _. go (lentIn settings) refl) (λ _ z. absurd (omega arith)))
+  where
+    H : OpenCrossed → Type 0
+    H o = o .number ≡ 0 → wordOf (o .rec) 2 ≡ wordOf (o .rec) 3
+
+    go : (t : Lent) → lentIn settings ≡ t → H (openedWith rec (featuresFrom (P.featuresOf banner)) rx msg t)
+    go (L.Ids t) e z = refl
+    go (L.Refused n) e z = absurd (lent-some settings n e z)
 
 -- into no record none is opened
 unopened : (settings banner : List ℕ) (rx msg : ℕ) → crossOpen [] settings banner rx msg .number ≡ 0 → ⊥
@@ -66,3 +83,8 @@ module _ (rec settings banner : List ℕ) (rx msg : ℕ) {l : List ℕ} {n : ℕ
     pub open-in : {y : List ℕ} → n ≡ 0 → y ≡ totalling l 0 0 0 → openCrossed y 0 ≡ totalOpen rec settings banner rx msg
     unfolding totalOpen
     open-in f g = rw (eq-eqb (length rec) recordSize h, ← e, eq-eqb n 0 f) (ap (λ (z : List ℕ). openCrossed z 0) g)
+
+    pub open-none : n ≡ 0 → wordOf l 2 ≡ wordOf l 3
+    open-none f =
+        subst (λ (o : OpenCrossed). wordOf (o .rec) 2 ≡ wordOf (o .rec) 3) (sym e)
+        (holds-none (take size rec) settings banner rx msg (sym (ap (λ (z : OpenCrossed). z .number) e) ∙ f))

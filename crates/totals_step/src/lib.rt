@@ -1,7 +1,7 @@
 // A session with totals in a lent record of 288 bytes (document 02, [7]): a step of the session inside, and the totals behind it.
 ghost use mathlib.Core.Bool.{_&&_};
 ghost use mathlib.Core.Path.{_≡_};
-ghost use Prim.Native.Nat.{_+_, _-_, _%_, _≤_};
+ghost use Prim.Native.Nat.{_+_, _%_, _≤_};
 ghost use lib.Dec.{leb};
 ghost use lib.ListN.{length, take};
 ghost use Rattle.record.specs.Record.{loaded, size};
@@ -10,7 +10,7 @@ ghost use Rattle.boundary.specs.Told.{outSize};
 ghost use Rattle.boundary_step.specs.Opened.{openCrossed};
 ghost use Rattle.totals.specs.Crossing.{recordSize, limit, refuses, totalOpen, totalStart, totalRead, totalWrote, totalFault};
 ghost use Rattle.totals_taken.specs.Taken.{takesRead, takesWrote};
-ghost use Rattle.totals_step.specs.Settled.{askedBy, settledBy};
+ghost use Rattle.totals_step.specs.Settled.{askedBy, roomFor, Stands, settledBy};
 use boundary::REPLY;
 use boundary_reply::put_three;
 use boundary_step::session_fault;
@@ -22,6 +22,8 @@ use format_number::put_u64;
 use format_number::u64_at;
 use record::SIZE;
 use record_store::put_four;
+use std::num::wrapping_add_u64;
+use std::num::wrapping_sub_u64;
 use totals_taken::takes_read;
 use totals_taken::takes_wrote;
 
@@ -42,10 +44,7 @@ const HEAD: usize = 16;
 
 const TAIL: usize = 24;
 
-// The largest total.
-const MOST: u64 = 0xffff_ffff_ffff_ffff;
-
-// What is returned for answer 3, to a record of another length or too short a slice for a reply, and for 21, to a total that would pass the largest.
+// What is returned for answer 3, to a record of another length, and for 21, to a total that would pass the largest.
 const AWAY: u32 = 768;
 
 const OVER: u32 = 5376;
@@ -67,16 +66,6 @@ const REFUSALS: u32 = 12;
 // The length of a number in a reply.
 const WORD: usize = 8;
 
-// a - b; 0 where b is larger.
-fn less(a: u64, b: u64) -> u64
-    ensures { λ r. ⌜ r ≡ a - b ⌝ }
-{
-    if a < b {
-        return 0;
-    }
-    a - b
-}
-
 // Whether one of 1 to 11 is told.
 fn refuses(n: u32) -> bool
     ensures { λ r. ⌜ r ≡ refuses n ⌝ }
@@ -90,7 +79,7 @@ fn refuses(n: u32) -> bool
 
 // The length of the piece that is asked to be written; 0 for a close.
 fn piece_len(n: u32, out: &[u8]) -> u64
-    requires { ⌜ (outSize ≤ length (now out)) × (2 ≤ n % 256) ⌝ }
+    requires { ⌜ (outSize ≤ length (now out)) × (2 ≤ n % 256) × Stands n (now out) ⌝ }
     ensures { λ r. ⌜ r ≡ askedBy n (now (out .entry)) 0 ⌝ }
 {
     let what = n % ANSWER;
@@ -98,51 +87,67 @@ fn piece_len(n: u32, out: &[u8]) -> u64
         return u64_at(out, WORD);
     }
     if what == WRITES_BYTES {
-        let len = u64_at(out, 0);
-        let room = out.len() - WORD;
-        if len < room as u64 {
-            return len;
-        }
-        return room as u64;
+        return u64_at(out, 0);
     }
     0
 }
 
-// Puts what follows from the bytes received and from what is asked or told now: the bytes consumed, and the length of the piece that was last asked.
-fn settle(rec: &mut [u8], received: u64, n: u32, out: &[u8])
-    requires { ⌜ (length (now rec) ≡ recordSize) × (outSize ≤ length (now out)) ⌝ }
-    ensures { λ _. ⌜ now (rec .exit) ≡ settledBy (now (rec .entry)) received n (now (out .entry)) ⌝ }
+// Puts what follows from the bytes received, as they stand, and from what is asked or told now: the bytes consumed, and the length of the piece that was last asked.
+fn settle(rec: &mut [u8], n: u32, out: &[u8])
+    requires { ⌜ (length (now rec) ≡ recordSize) × (outSize ≤ length (now out)) × Stands n (now out) ⌝ }
+    ensures { λ _. ⌜ now (rec .exit) ≡ settledBy (now (rec .entry)) n (now (out .entry)) ⌝ }
 {
-    let held = less(u64_at(rec, TAIL), u64_at(rec, HEAD));
-    put_u64(rec, CONSUMED, less(received, held));
+    let all = wrapping_add_u64(u64_at(rec, RECEIVED), u64_at(rec, HEAD));
+    let consumed = wrapping_sub_u64(all, u64_at(rec, TAIL));
+    put_u64(rec, CONSUMED, consumed);
     if n % ANSWER < WRITES {
         return;
     }
     put_u64(rec, ASKED, piece_len(n, out));
 }
 
-// Whether a read that the session would take brings the bytes received past the largest total.
-fn over_read(rec: &[u8], before: u64, rx: usize, msg: usize, lent: usize, count: usize) -> bool
+// Whether a read that the session would take, with such a slice for its reply, brings the bytes received past the largest total.
+fn over_read(
+    rec: &[u8],
+    before: u64,
+    rx: usize,
+    msg: usize,
+    lent: usize,
+    count: usize,
+    out: usize,
+) -> bool
     requires { ⌜ length (now rec) ≡ recordSize ⌝ }
-    ensures { λ r. ⌜ r ≡ (leb limit (before + count) && takesRead (loaded (take size (now (rec .entry)))) rx msg lent count) ⌝ }
+    ensures { λ r. ⌜ r ≡ (leb limit (before + count) && roomFor out (takesRead (loaded (take size (now (rec .entry)))) rx msg lent count)) ⌝ }
 {
-    let room = MOST - before;
-    if count as u64 <= room {
+    if before <= wrapping_add_u64(before, count as u64) {
         return false;
     }
-    takes_read(&rec[..SIZE], rx, msg, lent, count)
+    if takes_read(&rec[..SIZE], rx, msg, lent, count) {
+        return REPLY <= out;
+    }
+    false
 }
 
 // The same of a piece of that length that is out, and the bytes written.
-fn over_wrote(rec: &[u8], before: u64, asked: u64, rx: usize, msg: usize, lent: usize) -> bool
+fn over_wrote(
+    rec: &[u8],
+    before: u64,
+    asked: u64,
+    rx: usize,
+    msg: usize,
+    lent: usize,
+    out: usize,
+) -> bool
     requires { ⌜ length (now rec) ≡ recordSize ⌝ }
-    ensures { λ r. ⌜ r ≡ (leb limit (before + asked) && takesWrote (loaded (take size (now (rec .entry)))) rx msg lent) ⌝ }
+    ensures { λ r. ⌜ r ≡ (leb limit (before + asked) && roomFor out (takesWrote (loaded (take size (now (rec .entry)))) rx msg lent)) ⌝ }
 {
-    let room = MOST - before;
-    if asked <= room {
+    if before <= wrapping_add_u64(before, asked) {
         return false;
     }
-    takes_wrote(&rec[..SIZE], rx, msg, lent)
+    if takes_wrote(&rec[..SIZE], rx, msg, lent) {
+        return REPLY <= out;
+    }
+    false
 }
 
 // Opens a session in the front of the record, with all totals 0, and answers as its opening does, which is lent nothing of a record of another
@@ -177,15 +182,11 @@ pub fn total_start(
     if rec.len() != CARD {
         return AWAY;
     }
-    if out.len() < REPLY {
-        return AWAY;
-    }
-    let received = u64_at(rec, RECEIVED);
     let n = session_start(&mut rec[..SIZE], rx, msg, lent, call, a, b, out);
     if refuses(n) {
         return n;
     }
-    settle(rec, received, n, out);
+    settle(rec, n, out);
     n
 }
 
@@ -204,11 +205,16 @@ pub fn total_read(
     if rec.len() != CARD {
         return AWAY;
     }
-    if out.len() < REPLY {
-        return AWAY;
-    }
     let before = u64_at(rec, RECEIVED);
-    if over_read(rec, before, rx.len(), msg.len(), lent.len(), count) {
+    if over_read(
+        rec,
+        before,
+        rx.len(),
+        msg.len(),
+        lent.len(),
+        count,
+        out.len(),
+    ) {
         put_three(out, OTHER, 0, 0);
         return OVER;
     }
@@ -218,7 +224,7 @@ pub fn total_read(
     }
     let received = before + count as u64;
     put_u64(rec, RECEIVED, received);
-    settle(rec, received, n, out);
+    settle(rec, n, out);
     n
 }
 
@@ -235,13 +241,17 @@ pub fn total_wrote(
     if rec.len() != CARD {
         return AWAY;
     }
-    if out.len() < REPLY {
-        return AWAY;
-    }
-    let received = u64_at(rec, RECEIVED);
     let before = u64_at(rec, WRITTEN);
     let asked = u64_at(rec, ASKED);
-    if over_wrote(rec, before, asked, rx.len(), msg.len(), lent.len()) {
+    if over_wrote(
+        rec,
+        before,
+        asked,
+        rx.len(),
+        msg.len(),
+        lent.len(),
+        out.len(),
+    ) {
         put_three(out, OTHER, 0, 0);
         return OVER;
     }
@@ -251,7 +261,7 @@ pub fn total_wrote(
     }
     let written = before + asked;
     put_u64(rec, WRITTEN, written);
-    settle(rec, received, n, out);
+    settle(rec, n, out);
     n
 }
 
@@ -270,14 +280,10 @@ pub fn total_fault(
     if rec.len() != CARD {
         return AWAY;
     }
-    if out.len() < REPLY {
-        return AWAY;
-    }
-    let received = u64_at(rec, RECEIVED);
     let n = session_fault(&mut rec[..SIZE], rx, msg, lent, kind, code, out);
     if refuses(n) {
         return n;
     }
-    settle(rec, received, n, out);
+    settle(rec, n, out);
     n
 }

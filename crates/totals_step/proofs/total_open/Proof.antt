@@ -7,7 +7,7 @@ use lib.ListN.{drop, length-drop}
 use lib.Seq.{length-take-le}
 use Rattle.record.specs.Record.{size}
 use Rattle.totals_step.proofs.Behind.{put-none}
-use Rattle.totals_step.proofs.Opening.{open-other, open-refused, open-in}
+use Rattle.totals_step.proofs.Opening.{open-other, open-refused, open-in, open-none}
 use Rattle.totals_step.proofs.total_open.Statement.{statement}
 use Rattle.totals_step.proofs.total_open.Tie as tie
 
@@ -25,8 +25,11 @@ returns-2 c =
     let s = c .before .before .before .before .before .before .before in
     let a = s .before .before .before .before .before .before .args in
     let rec = now (a .rec) in
-    open-in rec (now (a .settings)) (now (a .banner)) (a .rx) (a .msg) (s .before .before .if1 .left) (s .session-open2 .ensures) (c .before .before .before .before .if2 .taken)
-    (put-none (s .session-open2 .last .0) (drop size rec) (s .session-open2 .kept .0 ∙ length-take-le size rec (omega arith)) (omega (arith, length-drop size rec)) (c .before .before .put-four .ensures))
+    let zero = c .before .before .before .before .if2 .taken in
+    open-in rec (now (a .settings)) (now (a .banner)) (a .rx) (a .msg) (s .before .before .if1 .left) (s .session-open2 .ensures) zero
+    (put-none (s .session-open2 .last .0) (drop size rec) (s .session-open2 .kept .0 ∙ length-take-le size rec (omega arith)) (omega (arith, length-drop size rec))
+    (open-none rec (now (a .settings)) (now (a .banner)) (a .rx) (a .msg) (s .before .before .if1 .left) (s .session-open2 .ensures) zero)
+    (c .before .before .put-four .ensures))
 
 returns-3 : tie.Need-returns-3
 returns-3 c =

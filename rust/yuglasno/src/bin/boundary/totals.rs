@@ -56,7 +56,8 @@ fn added(rec: &[u8], function: Function) -> Option<(u64, u64)> {
     Some((word(rec, RECEIVED).checked_add(read)?, word(rec, WRITTEN).checked_add(wrote)?))
 }
 
-/// The totals of a step that was taken. The length of a piece stands until another is asked, or the close, which has none.
+/// The totals of a step that was taken: consumed is received less what is held, in 64 bits. The length of a piece stands until another is
+/// asked, or the close, which has none.
 fn carried(slices: &mut Slices, before: &Slices, number: u32, (received, written): (u64, u64)) {
     let asked = match number & 255 {
         0 | 1 => word(before.rec.bytes(), ASKED),
@@ -65,8 +66,8 @@ fn carried(slices: &mut Slices, before: &Slices, number: u32, (received, written
         _ => 0,
     };
     let rec = slices.rec.lend();
-    let held = word(rec, TAIL).saturating_sub(word(rec, HEAD));
-    let numbers = [(RECEIVED, received), (CONSUMED, received.saturating_sub(held)), (WRITTEN, written), (ASKED, asked)];
+    let consumed = received.wrapping_add(word(rec, HEAD)).wrapping_sub(word(rec, TAIL));
+    let numbers = [(RECEIVED, received), (CONSUMED, consumed), (WRITTEN, written), (ASKED, asked)];
     for (i, number) in numbers {
         put(rec, i, number);
     }
