@@ -25,10 +25,11 @@ use Rattle.boundary.specs.Boundary.{callNumber, firstNumber, flagNumber, endKin
 use Rattle.boundary.specs.Crossing.{Crossed, OpenCrossed, crossOpen}
 use Rattle.boundary.specs.Heard.{heard}
 use Rattle.boundary.proofs.Demand3.{every-host}
+use Rattle.boundary_misuse.specs.Misuse.{Act, start, report, hasRead, wrote, fault, Event, acted}
 use Rattle.totals.specs.Crossing.{recordSize, receivedOf, writtenOf, askedOf, limit, refuses, pieceAsked, totalling, withTotals, overflowing, totalled, onRecord, openTotals, totalOpen, totalStart, totalRead, totalWrote, totalFault}
 use Rattle.totals.specs.System.{counting, totals}
 use Rattle.totals.proofs.Behind.{whole-size, whole-inner, whole-own, whole-received, whole-written, whole-asked, in-front}
-use Rattle.totals.proofs.Sizes.{Sized, sized-start, sized-read, sized-wrote, sized-fault, open-size}
+use Rattle.totals.proofs.Sizes.{Sized, acted-sized, open-size}
 
 -- ---- the relation
 
@@ -140,6 +141,13 @@ module _ (l : Account) (sh : Show) (y x : List ℕ) (k : Keeps l sh y x) where
 
 -- ---- the layer
 
+-- a step of the session inside
+abbrev made : (rx msg lent out : List ℕ) → Act → Event
+made rx msg lent out a = record { act = a; lent = lent; rx = rx; msg = msg; out = out }
+
+inside : (x rx msg lent out : List ℕ) → length x ≡ size → (a : Act) → Sized (acted x (made rx msg lent out a) a)
+inside x rx msg lent out l a = acted-sized x l (made rx msg lent out a) a
+
 totals-layer : Layer limit counting recorded (totals .lends) Keeps
 unfolding totalStart totalRead totalWrote totalFault
 totals-layer =
@@ -148,21 +156,21 @@ totals-layer =
       tail = λ l sh y x k. here-word l sh y x k 3 (omega arith);
       start = λ l a y x k rx msg q z _.
           rw (here-inner l (told a) y x k, here-received l (told a) y x k, here-written l (told a) y x k)
-          (settled-alike l (told a) y x k l _ (sized-start x rx msg (z .out) (k .sized) (lentOf z q) (callNumber q) (firstNumber z q) (flagNumber z q)) rx msg (z .out) (k .r) (k .n) (k .received) (k .written)
+          (settled-alike l (told a) y x k l _ (inside x rx msg (lentOf z q) (z .out) (k .sized) (start (callNumber q) (firstNumber z q) (flagNumber z q))) rx msg (z .out) (k .r) (k .n) (k .received) (k .written)
           (omega arith) (omega arith) (k .to-come) (k .below));
       onRead = λ l at len y x k rx msg lent i z _ p q b.
           rw (here-inner l (read at len) y x k, here-received l (read at len) y x k, here-written l (read at len) y x k)
-          (totalled-alike l (read at len) y x k (reading i l) _ (sized-read x rx msg (z .out) (k .sized) lent i) rx msg (z .out) (k .r + i) (k .n) (omega (arith, k .received)) (k .written)
+          (totalled-alike l (read at len) y x k (reading i l) _ (inside x rx msg lent (z .out) (k .sized) (report (hasRead i))) rx msg (z .out) (k .r + i) (k .n) (omega (arith, k .received)) (k .written)
           (omega arith) (omega arith) (omega (arith, k .to-come, length-drop i (l .left))) (k .below));
       onWrote = λ l sh y x k w f rx msg lent z _.
           let a : k .a ≡ asked sh = k .recalls w in
           let b : askedOf y ≡ k .a = here-asked l sh y x k (omega arith) in
           rw (here-inner l sh y x k, here-received l sh y x k, here-written l sh y x k)
-          (totalled-alike l sh y x k (writing (asked sh) l) _ (sized-wrote x rx msg (z .out) (k .sized) lent) rx msg (z .out) (k .r) (k .n + askedOf y) (k .received) (omega (arith, k .written))
+          (totalled-alike l sh y x k (writing (asked sh) l) _ (inside x rx msg lent (z .out) (k .sized) (report wrote)) rx msg (z .out) (k .r) (k .n + askedOf y) (k .received) (omega (arith, k .written))
           (omega arith) (omega arith) (k .to-come) f);
       onFault = λ l sh y x k rx msg lent e z _.
           rw (here-inner l sh y x k, here-received l sh y x k, here-written l sh y x k)
-          (settled-alike l sh y x k l _ (sized-fault x rx msg (z .out) (k .sized) lent (endKind z e) (endCode z e)) rx msg (z .out) (k .r) (k .n) (k .received) (k .written)
+          (settled-alike l sh y x k l _ (inside x rx msg lent (z .out) (k .sized) (report (fault (endKind z e) (endCode z e)))) rx msg (z .out) (k .r) (k .n) (k .received) (k .written)
           (omega arith) (omega arith) (k .to-come) (k .below));
     }
 
