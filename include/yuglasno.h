@@ -46,7 +46,8 @@
  *     KIND_OTHER                  an answer that is not OK. Word 3 is the feature (MISSING), the code that was reported (IO), an id as the
  *                                 number that its four bytes spell, the lowest first (UNEXPECTED), the panel's errno (ERRNO); the part is
  *                                 a FAIL's text, in msg. Other answers have no part and no number
- *   OTHER_LENGTH      out is left alone where it is too short itself, or where rec holds no session
+ *     each of them                word AT_READS, behind all others: how many reads the call accepted until it was over; 0 of a refusal
+ *   OTHER_LENGTH      out is left alone where it is too short itself; where rec has another length or holds no session, but for word AT_READS
  * A part stands until the next call.
  *
  * What a query of an index puts in out: words too, and no other byte
@@ -59,7 +60,7 @@
  *   yuglasno_heard   the words YUGLASNO_HEARD_..
  *
  * What of the record may be read, whenever none of the functions is at work on it: how many bytes a read still wants, by yuglasno_wanted(); the session's totals, by
- * yuglasno_received(), yuglasno_consumed() and yuglasno_written(). All else in it is the library's own. */
+ * yuglasno_received(), yuglasno_consumed() and yuglasno_written(); a call's reads, by yuglasno_reads(). All else in it is the library's own. */
 #ifndef YUGLASNO_H
 #define YUGLASNO_H
 
@@ -70,9 +71,9 @@
 extern "C" {
 #endif
 
-#define YUGLASNO_RECORD 288     /* bytes of a record */
+#define YUGLASNO_RECORD 296     /* bytes of a record */
 #define YUGLASNO_SETTINGS 128   /* bytes of settings */
-#define YUGLASNO_REPLY 112      /* bytes of a slice that takes any reply */
+#define YUGLASNO_REPLY 120      /* bytes of a slice that takes any reply */
 #define YUGLASNO_DATA_MOST 65536 /* the most bytes in one DATA message */
 #define YUGLASNO_CAPACITY 65544 /* bytes of a receive buffer that takes every DATA message, with its header */
 #define YUGLASNO_PATH_MOST 1024 /* the most bytes of a path */
@@ -150,7 +151,8 @@ enum {
   YUGLASNO_ANSWER_INDEX_FULL = 19,          /* slots or name bytes run out: no room for the entry */
   YUGLASNO_ANSWER_LONG_REPLY = 20,          /* of yuglasno_speak: out can't hold the reply, data is over YUGLASNO_DATA_MOST bytes, or a name or
                                                text has 2^32 or more */
-  YUGLASNO_ANSWER_OVERFLOW = 21,            /* a read or a write that would take a total past 2^64 - 1: it is not counted, and is still awaited */
+  YUGLASNO_ANSWER_OVERFLOW = 21,            /* a read or a write that would take a total, or a read that would take the call's reads, past
+                                               2^64 - 1: it is not counted, and is still awaited */
   YUGLASNO_ANSWER_BAD_IDS = 22,             /* a file, or the settings of an opening, is no table of ids */
   YUGLASNO_ANSWER_EQUAL_IDS = 23            /* two ids of the table are equal */
 };
@@ -178,8 +180,8 @@ enum {
   YUGLASNO_KIND_OTHER = 7     /* an answer that is not OK */
 };
 
-/* Where a WHAT_TOLD has its words: kind and part, then those of KIND_STAT and KIND_ENTRY, then those of KIND_STAT_V2 and KIND_ENTRY_V2.
- * The times of v2 are signed: (int64_t) of the word. */
+/* Where a WHAT_TOLD has its words: kind and part, then those of KIND_STAT and KIND_ENTRY, then those of KIND_STAT_V2 and KIND_ENTRY_V2; last,
+ * whatever the kind, the reads. The times of v2 are signed: (int64_t) of the word. */
 enum {
   YUGLASNO_AT_KIND = 0,
   YUGLASNO_AT_START = 1,
@@ -198,15 +200,19 @@ enum {
   YUGLASNO_AT_V2_SIZE = 10,
   YUGLASNO_AT_V2_ATIME = 11,
   YUGLASNO_AT_V2_MTIME = 12,
-  YUGLASNO_AT_V2_CTIME = 13
+  YUGLASNO_AT_V2_CTIME = 13,
+  YUGLASNO_AT_READS = 14 /* the reads that the call accepted; 0 of a refusal, and of a call that needed none */
 };
 
-/* Where a record has a session's totals, which are a host's to read and never to write: the words 32, 33 and 34, so from byte 256 on, eight
- * bytes each. An opening makes them 0. A report that is refused, a fault and the close add nothing. */
+/* Where a record has a session's totals and a call's reads, which are a host's to read and never to write: the words 32, 33, 34 and 36, of eight
+ * bytes each from byte 256 on; word 35 is the library's own. An opening makes them 0. A report that is refused, a fault and the close add nothing.
+ * A read is a yuglasno_read that was accepted. A call that is answered anything but CLOSED or IO has accepted at most 8 more of them than it has
+ * consumed bytes. What a read brought beyond its call is there for the next, which may so need none. */
 enum {
   YUGLASNO_RECEIVED = 32, /* the counts of the reads that were accepted, summed */
   YUGLASNO_CONSUMED = 33, /* of these bytes those that the session is done with, dropped ones too; the others are held in rx */
-  YUGLASNO_WRITTEN = 34   /* the lengths of the pieces that were accepted, summed */
+  YUGLASNO_WRITTEN = 34,  /* the lengths of the pieces that were accepted, summed */
+  YUGLASNO_READS = 36     /* the reads of the call that is pending, until now, or of the one that was last over; a call starts with 0 */
 };
 
 /* Where a query of an index has its words. */
@@ -328,6 +334,10 @@ static inline uint64_t yuglasno_word(const uint8_t *bytes, size_t i) {
 static inline uint64_t yuglasno_received(const uint8_t *rec) { return yuglasno_word(rec, YUGLASNO_RECEIVED); }
 static inline uint64_t yuglasno_consumed(const uint8_t *rec) { return yuglasno_word(rec, YUGLASNO_CONSUMED); }
 static inline uint64_t yuglasno_written(const uint8_t *rec) { return yuglasno_word(rec, YUGLASNO_WRITTEN); }
+
+/* The reads of the call that is pending in a record, or was last over; and those that a WHAT_TOLD tells in out. */
+static inline uint64_t yuglasno_reads(const uint8_t *rec) { return yuglasno_word(rec, YUGLASNO_READS); }
+static inline uint64_t yuglasno_told_reads(const uint8_t *out) { return yuglasno_word(out, YUGLASNO_AT_READS); }
 
 /* How many bytes the read that is asked for still wants, at least 1: a host may gather reads up to it (and to the window's end) before
  * it reports. A hint: any count from one to the window may be reported. It is the record's word 9 less its word 3. */

@@ -3,7 +3,8 @@ platform tools 34.0.5 (Apache-2.0; bytes on the wire and what they mean, none of
 the reply's meaning, and whether the service went on.
 
 - What our host writes is written byte for byte as the client of the recording wrote it.
-- Every reply is read by the session as it is meant, whole and in reads of one byte; its totals are the bytes that came and went.
+- Every reply is read by the session as it is meant, whole and in reads of one byte; its totals are the bytes that came and went, and the reads
+  of each call those that brought some of them.
 - Both hold of what our host writes with other ids put for the published ones, on both sides: in small letters, and in another order.
 - The request reader (the program `heard_requests`) judges every request as the service did, but for those that docs/DIFFERENCES.md names,
   and reads the mode of every push that it takes as the service did, as far as the file shows it that the service made.
@@ -77,7 +78,7 @@ def compared(count, library, exchange, cut):
     foreign = (exchanges.UNEXPECTED, exchanges.LST2) in told
     count.check(link.at == len(exchange.said) or foreign, f'{case}: {len(exchange.said) - link.at} bytes are left')
     # a reply that does not belong there is left unread
-    count.check(session.counts(link, link.at - exchange.said.index(b'LST2') if foreign else 0), f'{case}: other totals')
+    count.check(session.counts(link, link.at - exchange.said.index(b'LST2') if foreign else 0), f'{case}: other totals or reads')
     count.check(b''.join(answer[1] for answer in told if answer[0] == 'CHUNK') == exchange.data, f'{case}: other data')
     if exchange.calls:
         count.check(link.written == exchange.asked, f'{case}: written {link.written[:60]}, not {exchange.asked[:60]}')

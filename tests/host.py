@@ -12,7 +12,9 @@ LIBRARY = pathlib.Path(os.environ.get('YUGLASNO_LIB') or ROOT / 'target' / 'stat
 TABLES = in_header.tables({path: (ROOT / path).read_text() for path in in_header.SOURCES})
 CALL, WHAT, KIND, ANSWER, AT = (TABLES[name] for name in ('calls', 'what', 'kinds', 'answers', 'words'))
 LENGTHS = TABLES['lengths']
-TOTALS = [TABLES['record'][name] for name in ('RECEIVED', 'CONSUMED', 'WRITTEN')]
+RECEIVED, CONSUMED, WRITTEN, READS = (TABLES['record'][name] for name in ('RECEIVED', 'CONSUMED', 'WRITTEN', 'READS'))
+# by how much the reads of a call may pass the bytes that it consumed, unless it ends in one of these
+CEILING, BROKEN_OFF = 8, (ANSWER['CLOSED'], ANSWER['IO'])
 STAT_WORDS = ('MODE', 'SIZE', 'MTIME')
 V2_WORDS = ('ERROR', 'DEV', 'INO', 'MODE', 'NLINK', 'UID', 'GID', 'SIZE', 'ATIME', 'MTIME', 'CTIME')
 
@@ -35,14 +37,15 @@ def loaded(folder):
 
 
 class Link:
-    """The incoming bytes, which come `cut` at a time and then end; what is written, and whether it is closed."""
+    """The incoming bytes, which come `cut` at a time and then end; the reads that brought some; what is written, and whether it is closed."""
 
     def __init__(self, incoming, cut):
-        self.incoming, self.cut, self.at, self.written, self.closed = incoming, cut, 0, b'', False
+        self.incoming, self.cut, self.at, self.reads, self.written, self.closed = incoming, cut, 0, 0, b'', False
 
     def read(self, most):
         part = self.incoming[self.at:self.at + min(self.cut, most)]
         self.at += len(part)
+        self.reads += bool(part)
         return part
 
 
@@ -50,7 +53,7 @@ class Session:
     """A session under the published ids, or those of an ids file."""
 
     def __init__(self, library, banner, capacity=LENGTHS['CAPACITY'], ids=None):
-        self.library, self.capacity = library, capacity
+        self.library, self.capacity, self.well_counted = library, capacity, True
         settings = ctypes.create_string_buffer(LENGTHS['SETTINGS'])
         assert library.yuglasno_settings(settings, len(settings)) == ANSWER['OK']
         assert ids is None or library.yuglasno_ids(settings, len(settings), ids, len(ids)) == ANSWER['OK']
@@ -62,10 +65,21 @@ class Session:
     def word(self, i, signed=False):
         return int.from_bytes(self.out[8 * i:8 * i + 8], 'little', signed=signed)
 
+    def in_record(self, *numbers):
+        return tuple(int.from_bytes(self.rec[8 * i:8 * i + 8], 'little') for i in numbers)
+
     def counts(self, link, unread=0):
-        """Whether the totals are what came over the link, all of it but the bytes that are unread, and what was written to it."""
-        totals = [int.from_bytes(self.rec[8 * i:8 * i + 8], 'little') for i in TOTALS]
-        return totals == [link.at, link.at - unread, len(link.written)]
+        """Whether the totals are what came over the link, all of it but the bytes that are unread, and what was written to it; and the reads of
+        each call were those of the link, and under the ceiling."""
+        totals = self.in_record(RECEIVED, CONSUMED, WRITTEN)
+        return totals == (link.at, link.at - unread, len(link.written)) and self.well_counted
+
+    def counts_reads(self, number, brought, before):
+        """Whether so many reads are told of a call and are in the record, under the ceiling; a refusal tells none, and leaves the record's."""
+        (consumed, reads), told = self.in_record(CONSUMED, READS), self.word(AT['READS'])
+        if 0 < number < ANSWER['CLOSED']:
+            return (told, reads) == (0, before[1])
+        return told == reads == brought and (brought <= consumed - before[0] + CEILING or number in BROKEN_OFF)
 
     def step(self, name, lent, *numbers):
         """One crossing: what is asked, and an answer's number."""
@@ -90,9 +104,11 @@ class Session:
 
     def call(self, link, name, lent=b'', a=0, b=0):
         """A call to its answer: see `answered`."""
+        reads, before = link.reads, self.in_record(CONSUMED, READS)
         what, number = self.step('start', lent, CALL[name], a, b)
         while what != WHAT['TOLD']:
             what, number = self.take(what, lent, link)
+        self.well_counted &= self.counts_reads(number, link.reads - reads, before)
         return self.answered(number)
 
     def answered(self, number):

@@ -3,7 +3,7 @@
 - every kind of reply, with fields of every bit pattern and names, data and texts of any bytes, byte for byte, under three tables of ids;
 - buffers to the last byte, and what is answered 3 or 20, with nothing written; the limits of data, and of a name and a text of 2^32 bytes;
 - every reply of AOSP's own service in tests/captures.jsonl, said again byte for byte;
-- lists of replies that a fresh session with all seven features reads back, in reads of 1, 3, 7 and of all bytes.
+- lists of replies that a fresh session with all seven features reads back, in reads of 1, 3, 7 and of all bytes; its totals and reads.
 
 The last line is 'N passed, M failed'."""
 import collections
@@ -222,7 +222,7 @@ def read_back(count, library, chosen):
                 answers = [session.call(link, call, b'/a' if call in ('STAT', 'STAT_V2') else b'') for _, call in made]
                 well = answers == [answer_to(reply) for reply, _ in made] and link.at == len(stream)
                 count.check(well, f'in reads of {cut}, ids {name}: answered {str(answers)[:300]} to {str(made)[:300]}')
-                count.check(session.counts(link), f'in reads of {cut}, ids {name}: other totals, of {str(made)[:300]}')
+                count.check(session.counts(link), f'in reads of {cut}, ids {name}: other totals or reads, of {str(made)[:300]}')
 
 
 def main():

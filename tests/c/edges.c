@@ -1,6 +1,6 @@
 /* What yuglasno.h says, tried: NULL with length 0, slices at odd addresses, the two forms of a returned number, refusals that change
- * nothing, ids from a file, the reply's layout by kind, what a read still wants, the totals, an index beside a session. Its last line is
- * 'N passed, M failed'. Also compiled as C++. */
+ * nothing, ids from a file, the reply's layout by kind, what a read still wants, the totals, a call's reads and their ceiling, an index beside a
+ * session. Its last line is 'N passed, M failed'. Also compiled as C++. */
 #include "yuglasno.h"
 #include "check.h"
 
@@ -15,18 +15,19 @@ static uint8_t memory[4][CAPACITY + YUGLASNO_RECORD + ODD];
 static uint8_t *const rec = memory[0] + ODD, *const rx = memory[1] + ODD, *const msg = memory[2] + ODD, *const out = memory[3] + ODD;
 static uint8_t written[CAPACITY];
 static size_t writes;
+static size_t capacity = CAPACITY; /* of the session that is open */
 
 static uint8_t set[YUGLASNO_SETTINGS + ODD], *const settings = set + ODD;
 
 #define OPEN(settings_len, rx_len, msg_len) yuglasno_open(rec, YUGLASNO_RECORD, settings, settings_len, NULL, 0, rx_len, msg_len)
-#define SESSION rec, YUGLASNO_RECORD, rx, CAPACITY, msg, CAPACITY
+#define SESSION rec, YUGLASNO_RECORD, rx, capacity, msg, capacity
 #define REPLY out, YUGLASNO_REPLY
 
 static uint64_t word(size_t i) { return yuglasno_word(out, i); }
 
 static void open_session(const char *banner) {
-  uint32_t told = yuglasno_open(rec, YUGLASNO_RECORD, settings, YUGLASNO_SETTINGS, (const uint8_t *)banner, strlen(banner), CAPACITY,
-                                CAPACITY);
+  uint32_t told = yuglasno_open(rec, YUGLASNO_RECORD, settings, YUGLASNO_SETTINGS, (const uint8_t *)banner, strlen(banner), capacity,
+                                capacity);
   CHECK(told == YUGLASNO_ANSWER_OK);
 }
 
@@ -48,10 +49,20 @@ static uint32_t follow(uint32_t told, const uint8_t *lent, size_t length) {
 
 static size_t least(size_t m, size_t n) { return m < n ? m : n; }
 
-/* A call with this reply, in reads of `cut` bytes and then the end of the channel: the answer's number. */
-static uint32_t call(uint32_t number, const char *path, const char *reply, size_t length, size_t cut) {
+/* Whether a call that is over tells so many reads, its record has them, and they are under the ceiling: at most 8 more than bytes consumed. */
+static int reads_are(uint32_t told, uint64_t reads, uint64_t consumed_before) {
+  const uint32_t answer = yuglasno_answer(told);
+  const uint64_t most = yuglasno_consumed(rec) - consumed_before + 8;
+  const int under = reads <= most || answer == YUGLASNO_ANSWER_CLOSED || answer == YUGLASNO_ANSWER_IO;
+  return yuglasno_told_reads(out) == reads && yuglasno_reads(rec) == reads && under;
+}
+
+/* A call with this reply, in reads of so many bytes each, in turn, the last of them from then on, and then the end of the channel: the answer's
+ * number. Its reads are counted. */
+static uint32_t call_in(uint32_t number, const char *path, const char *reply, size_t length, const size_t *cuts, size_t many) {
   const uint8_t *lent = (const uint8_t *)path;
-  size_t lent_len = strlen(path), at = 0;
+  size_t lent_len = strlen(path), at = 0, reads = 0;
+  const uint64_t consumed = yuglasno_consumed(rec);
   writes = 0;
   uint32_t told = yuglasno_start(SESSION, lent, lent_len, number, 0, 0, REPLY);
   while (yuglasno_what(told) != YUGLASNO_WHAT_TOLD) {
@@ -60,13 +71,18 @@ static uint32_t call(uint32_t number, const char *path, const char *reply, size_
     } else if (at == length) {
       told = yuglasno_fault(SESSION, lent, lent_len, YUGLASNO_FAULT_CLOSED, 0, REPLY);
     } else {
-      size_t count = least(cut, least(length - at, word(1)));
+      size_t count = least(cuts[least(reads++, many - 1)], least(length - at, word(1)));
       memcpy(rx + word(0), reply + at, count);
       at += count;
       told = yuglasno_read(SESSION, lent, lent_len, count, REPLY);
     }
   }
+  CHECK(reads_are(told, reads, consumed));
   return yuglasno_answer(told);
+}
+
+static uint32_t call(uint32_t number, const char *path, const char *reply, size_t length, size_t cut) {
+  return call_in(number, path, reply, length, &cut, 1);
 }
 
 #define HEARD(number, path, reply, cut) call(number, path, reply, sizeof(reply) - 1, cut)
@@ -120,15 +136,23 @@ static void bad_settings(void) {
   CHECK(yuglasno_settings(settings, YUGLASNO_SETTINGS) == YUGLASNO_ANSWER_OK && OPEN(YUGLASNO_SETTINGS, 8, 8) == YUGLASNO_ANSWER_OK);
 }
 
-/* A refusal, which leaves record and buffers as they were. */
+/* A refusal, which leaves record and buffers as they were, and tells no reads; with no slice for the reply it tells nothing. */
 static uint8_t before[3][sizeof memory[0]];
+#define UNTOLD UINT64_C(0xeeeeeeeeeeeeeeee)
 
-static void refused(uint32_t told, uint32_t answer, int line) {
-  check(told == answer << 8, "the answer", line);
-  check(memcmp(before, memory, sizeof before) == 0, "nothing has changed", line);
+static void prepare(void) {
+  memcpy(before, memory, sizeof before);
+  memset(out + 8 * YUGLASNO_AT_READS, 0xee, 8);
 }
 
-#define REFUSED(answer, told) (memcpy(before, memory, sizeof before), refused(told, YUGLASNO_ANSWER_##answer, __LINE__))
+static void refused(uint32_t told, uint32_t answer, uint64_t reads, int line) {
+  check(told == answer << 8, "the answer", line);
+  check(memcmp(before, memory, sizeof before) == 0, "nothing has changed", line);
+  check(yuglasno_told_reads(out) == reads, "the reads", line);
+}
+
+#define REFUSED(answer, told) (prepare(), refused(told, YUGLASNO_ANSWER_##answer, 0, __LINE__))
+#define REFUSED_UNTOLD(answer, told) (prepare(), refused(told, YUGLASNO_ANSWER_##answer, UNTOLD, __LINE__))
 
 /* A path that is too long and has a NUL, in every call that takes a path, with flags that are refused: the NUL comes first. */
 static void nul_in_long_path(uint8_t *path, size_t length) {
@@ -145,7 +169,8 @@ static void refusals(void) {
   static uint8_t path[70000];
   memset(path, 'p', sizeof path);
   open_session("");
-  REFUSED(OTHER_LENGTH, yuglasno_start(SESSION, path, 1, YUGLASNO_CALL_STAT, 0, 0, NULL, 0));
+  REFUSED_UNTOLD(OTHER_LENGTH, yuglasno_start(SESSION, path, 1, YUGLASNO_CALL_STAT, 0, 0, NULL, 0));
+  REFUSED_UNTOLD(OTHER_LENGTH, yuglasno_start(SESSION, path, 1, YUGLASNO_CALL_STAT, 0, 0, out, YUGLASNO_REPLY - 1));
   REFUSED(OTHER_LENGTH, yuglasno_start(NULL, 0, rx, CAPACITY, msg, CAPACITY, path, 1, YUGLASNO_CALL_STAT, 0, 0, REPLY));
   REFUSED(OTHER_LENGTH, yuglasno_start(rec, YUGLASNO_RECORD, NULL, 0, NULL, 0, path, 1, YUGLASNO_CALL_STAT, 0, 0, REPLY));
   REFUSED(LONG_PATH, yuglasno_start(SESSION, path, YUGLASNO_PATH_MOST + 1, YUGLASNO_CALL_STAT, 0, 0, REPLY));
@@ -245,9 +270,9 @@ static void quitting(void) {
   CHECK(yuglasno_start(SESSION, NULL, 0, YUGLASNO_CALL_QUIT, 0, 0, REPLY) == YUGLASNO_ANSWER_ENDED << 8);
 }
 
-/* A record of any other length is none, and not a byte of what is lent changes. */
+/* A record of any other length is none, and not a byte of what is lent changes but that the reply tells no reads. */
 static void other_records(void) {
-  const size_t lengths[] = {0, 192, 256, YUGLASNO_RECORD - 1, YUGLASNO_RECORD + 1};
+  const size_t lengths[] = {0, 192, 256, 288, YUGLASNO_RECORD - 1, YUGLASNO_RECORD + 1};
   open_session("");
   CHECK(yuglasno_start(SESSION, NULL, 0, YUGLASNO_CALL_RECV_NEXT, 0, 0, REPLY) == YUGLASNO_WHAT_READ);
   uint8_t as_it_was[YUGLASNO_REPLY];
@@ -255,13 +280,14 @@ static void other_records(void) {
   memset(out, 0xee, YUGLASNO_REPLY);
   for (size_t i = 0; i < sizeof lengths / sizeof *lengths; i++) {
     size_t n = lengths[i];
-    REFUSED(OTHER_LENGTH, yuglasno_open(rec, n, settings, YUGLASNO_SETTINGS, NULL, 0, CAPACITY, CAPACITY) << 8);
+    REFUSED_UNTOLD(OTHER_LENGTH, yuglasno_open(rec, n, settings, YUGLASNO_SETTINGS, NULL, 0, CAPACITY, CAPACITY) << 8);
     REFUSED(OTHER_LENGTH, yuglasno_start(rec, n, rx, CAPACITY, msg, CAPACITY, NULL, 0, YUGLASNO_CALL_QUIT, 0, 0, REPLY));
     REFUSED(OTHER_LENGTH, yuglasno_read(rec, n, rx, CAPACITY, msg, CAPACITY, NULL, 0, 1, REPLY));
     REFUSED(OTHER_LENGTH, yuglasno_wrote(rec, n, rx, CAPACITY, msg, CAPACITY, NULL, 0, REPLY));
     REFUSED(OTHER_LENGTH, yuglasno_fault(rec, n, rx, CAPACITY, msg, CAPACITY, NULL, 0, YUGLASNO_FAULT_CLOSED, 0, REPLY));
-    CHECK(memcmp(out, as_it_was, YUGLASNO_REPLY) == 0);
+    CHECK(memcmp(out, as_it_was, 8 * YUGLASNO_AT_READS) == 0);
   }
+  CHECK(yuglasno_reads(rec) == 0);
 }
 
 static int totals_are(uint64_t received, uint64_t consumed, uint64_t of_pieces) {
@@ -274,15 +300,18 @@ static int totals_are(uint64_t received, uint64_t consumed, uint64_t of_pieces) 
 static void totals(void) {
   memset(rec, 0xee, YUGLASNO_RECORD);
   open_session("");
-  CHECK(totals_are(0, 0, 0));
+  CHECK(totals_are(0, 0, 0) && yuglasno_reads(rec) == 0);
   CHECK(yuglasno_what(yuglasno_start(SESSION, LENT, YUGLASNO_CALL_STAT, 0, 0, REPLY)) == YUGLASNO_WHAT_WRITE_RX && totals_are(0, 0, 0));
   CHECK(yuglasno_wrote(SESSION, LENT, REPLY) == YUGLASNO_WHAT_READ && totals_are(0, 0, 10));
   memcpy(rx + word(0), "STAT" STAT1, 16);
-  CHECK(yuglasno_read(SESSION, LENT, 3, REPLY) == YUGLASNO_WHAT_READ && totals_are(3, 0, 10));
+  CHECK(yuglasno_read(SESSION, LENT, 3, REPLY) == YUGLASNO_WHAT_READ && totals_are(3, 0, 10) && yuglasno_reads(rec) == 1);
   REFUSED(COUNT, yuglasno_read(SESSION, LENT, 0, REPLY));
-  CHECK(totals_are(3, 0, 10));
-  CHECK(yuglasno_read(SESSION, LENT, 13, REPLY) == YUGLASNO_ANSWER_OK && totals_are(16, 16, 10));
+  REFUSED(PENDING, yuglasno_start(SESSION, LENT, YUGLASNO_CALL_STAT, 0, 0, REPLY));
+  REFUSED(OTHER_LENGTH, yuglasno_read(SESSION, NULL, 0, 13, REPLY));
+  CHECK(totals_are(3, 0, 10) && yuglasno_reads(rec) == 1);
+  CHECK(yuglasno_read(SESSION, LENT, 13, REPLY) == YUGLASNO_ANSWER_OK && totals_are(16, 16, 10) && reads_are(0, 2, 0));
   REFUSED(NOT_AWAITED, yuglasno_read(SESSION, LENT, 13, REPLY));
+  CHECK(yuglasno_reads(rec) == 2);
   CHECK(HEARD(YUGLASNO_CALL_QUIT, "", "", 1) == YUGLASNO_ANSWER_OK && totals_are(16, 16, 18));
   REFUSED(ENDED, yuglasno_wrote(SESSION, NULL, 0, REPLY));
   open_session("");
@@ -305,6 +334,34 @@ static void totals_of_a_fail(void) {
     CHECK(yuglasno_received(rec) == at);
   }
   CHECK(told == YUGLASNO_ANSWER_FAIL << 8 && part_is(msg, "twenty b") && totals_are(28, 28, 0));
+}
+
+/* A call on a fresh session with a buffer of this length: its answer, reads and bytes consumed. */
+static int comes_to(size_t room, uint32_t number, const char *reply, size_t length, const size_t *cuts, size_t many, uint32_t answer,
+                    uint64_t reads, uint64_t consumed) {
+  const char *path = number == YUGLASNO_CALL_STAT ? PATH : "";
+  capacity = room;
+  open_session("");
+  const uint32_t told = call_in(number, path, reply, length, cuts, many);
+  return told == answer && yuglasno_told_reads(out) == reads && yuglasno_consumed(rec) == consumed;
+}
+
+#define COMES_TO(room, number, reply, cuts, answer, reads, consumed) \
+  comes_to(room, YUGLASNO_CALL_##number, reply, sizeof(reply) - 1, cuts, sizeof(cuts) / sizeof *(cuts), YUGLASNO_ANSWER_##answer, reads, consumed)
+
+/* Reads of these lengths; what one brought beyond its call is there for the next, which needs none. */
+static void reads(void) {
+  const size_t in_two[] = {3, 13}, in_three[] = {1, 6, 1}, in_ones[] = {1}, in_eights[] = {8}, in_one[] = {43};
+  CHECK(COMES_TO(16, STAT, "STAT" STAT1, in_two, OK, 2, 16));
+  CHECK(COMES_TO(15, STAT, "STAT" STAT1, in_three, TOO_LARGE, 3, 0));
+  CHECK(HEARD(YUGLASNO_CALL_STAT, PATH, "", 1) == YUGLASNO_ANSWER_TOO_LARGE && reads_are(YUGLASNO_ANSWER_TOO_LARGE << 8, 0, 0));
+  CHECK(COMES_TO(8, RECV_NEXT, "DATA\1\0\0\0x", in_ones, TOO_LARGE, 8, 0));
+  CHECK(COMES_TO(8, RECV_NEXT, "FAIL\24\0\0\0twenty bytes of text", in_eights, FAIL, 4, 28));
+  CHECK(COMES_TO(64, NEXT_ENTRY, "DENT" STAT1 "\3\0\0\0T98DONE\0\0\0\0\0\0\0\0\0\0\0\0\0\0\0\0", in_one, OK, 1, 23));
+  CHECK(HEARD(YUGLASNO_CALL_NEXT_ENTRY, "", "", 1) == YUGLASNO_ANSWER_OK && word(YUGLASNO_AT_KIND) == YUGLASNO_KIND_END && reads_are(0, 0, 23));
+  CHECK(COMES_TO(64, STAT, "QUITxxxx", in_ones, UNEXPECTED, 8, 0));
+  CHECK(COMES_TO(64, STAT, "STAT", in_two, CLOSED, 2, 0));
+  capacity = CAPACITY;
 }
 
 /* As if the session had come so far that so many bytes more may be received, and written. */
@@ -335,6 +392,21 @@ static void overflow(void) {
   leave_room(0, 8);
   CHECK(HEARD(YUGLASNO_CALL_QUIT, "", "", 1) == YUGLASNO_ANSWER_OK && yuglasno_written(rec) == UINT64_MAX);
   REFUSED(ENDED, yuglasno_read(SESSION, NULL, 0, 1, REPLY));
+}
+
+/* The count of a call's reads may reach 2^64 - 1 too, where a record was altered; a call starts with 0. */
+static void overflow_of_reads(void) {
+  open_session("");
+  memset(rec + 8 * YUGLASNO_READS, 0xff, 8);
+  CHECK(yuglasno_start(SESSION, NULL, 0, YUGLASNO_CALL_RECV_NEXT, 0, 0, REPLY) == YUGLASNO_WHAT_READ && yuglasno_reads(rec) == 0);
+  memset(rec + 8 * YUGLASNO_READS, 0xff, 8);
+  REFUSED(OVERFLOW, yuglasno_read(SESSION, NULL, 0, 1, REPLY));
+  REFUSED(COUNT, yuglasno_read(SESSION, NULL, 0, 0, REPLY));
+  rec[8 * YUGLASNO_READS] = 0xfe;
+  CHECK(yuglasno_read(SESSION, NULL, 0, 1, REPLY) == YUGLASNO_WHAT_READ && yuglasno_reads(rec) == UINT64_MAX && yuglasno_received(rec) == 1);
+  REFUSED(OVERFLOW, yuglasno_read(SESSION, NULL, 0, 1, REPLY));
+  CHECK(yuglasno_fault(SESSION, NULL, 0, YUGLASNO_FAULT_CLOSED, 0, REPLY) == YUGLASNO_ANSWER_CLOSED << 8);
+  CHECK(reads_are(YUGLASNO_ANSWER_CLOSED << 8, UINT64_MAX, 0));
 }
 
 /* An index, whose names have little room. */
@@ -438,7 +510,9 @@ int main(void) {
   other_records();
   totals();
   totals_of_a_fail();
+  reads();
   overflow();
+  overflow_of_reads();
   printf("%d passed, %d failed\n", passed, failed);
   return failed != 0;
 }

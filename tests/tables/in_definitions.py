@@ -192,7 +192,7 @@ def tables(texts):
         'kinds': kinds(texts[TOLD]),
         'answers': answers(texts),
         'answers, of the plain reader': plain(texts[ANSWERS]),
-        'words': words(texts[HEARD]),
+        'words': words(texts[HEARD]) | told_reads(texts[TOTALS]),
         'faults': found(r'endKind z \(?(?P<name>\w+)[^=\n]*= (?P<number>\d+)', texts[BOUNDARY]),
         'features': listed,
         'flags': flags(texts[REFUSAL], texts[FLAGS], listed),
@@ -209,7 +209,13 @@ def tables(texts):
 def record(fields, totals):
     """The record's numbers that a host may read: those of a session, and its totals."""
     made = found(r'(?P<number>\d+) (?P<name>tail|until)\b', section(fields, '--  0 capacity', '--\n'))
-    return made | found(r'\b(?P<name>received|consumed|written)At = (?P<number>\d+)', totals)
+    return made | found(r'\b(?P<name>received|consumed|written|reads)At = (?P<number>\d+)', totals)
+
+
+def told_reads(totals):
+    """The word of a reply that tells the reads, by its byte."""
+    at = re.search(r'\ncountAt = (\d+)', totals)
+    return {'READS': int(at[1]) // 8} if at and int(at[1]) % 8 == 0 else {}
 
 
 def span(claim):

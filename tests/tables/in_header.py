@@ -29,7 +29,7 @@ def tables(texts):
     made = {name: found(rf'YUGLASNO_{group}_(?P<name>\w+)(?: =)? (?P<number>0x\w+?|\d+)(?=u?\b)', text) for name, group in GROUPS.items()}
     made['lengths'] = found(rf'#define YUGLASNO_(?P<name>{LENGTHS}) (?P<number>\d+)', text)
     made['record'] = found(r'(?P<name>until|tail) = yuglasno_word\(rec, (?P<number>\d+)\)', text)
-    made['record'] |= found(r'YUGLASNO_(?P<name>RECEIVED|CONSUMED|WRITTEN) = (?P<number>\d+)', text)
+    made['record'] |= found(r'YUGLASNO_(?P<name>RECEIVED|CONSUMED|WRITTEN|READS) = (?P<number>\d+)', text)
     made['uses'] = dict(uses(text))
     made['functions'] = dict(functions(text))
     return made | order(text)

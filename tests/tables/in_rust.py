@@ -40,7 +40,7 @@ def only(pattern, text):
     return numbers.pop() if len(numbers) == 1 else None
 
 
-def words(answer, session, error):
+def words(answer, session, error, raw):
     """The words of a reply, each by the name of the field that it goes to."""
     made = {'V2_' + name: number for name, number in found(FIELD, section(answer, 'fn stat_v2(', '\n}\n')).items()}
     made |= found(FIELD, section(answer, 'fn stat(', '\n}\n'))
@@ -48,6 +48,7 @@ def words(answer, session, error):
     made['START'] = only(r'part\(&self\.reply, (\d+)\)', session)
     made['LENGTH'] = made['START'] and made['START'] + 1
     made['NUMBER'] = only(r'word\(out, (\d+)\)', error)
+    made['READS'] = only(r'number\(out, (\d+)\)', section(raw, 'pub fn told_reads(', '\n}\n'))
     return made
 
 
@@ -69,11 +70,11 @@ def tables(texts):
         'what': what(texts[REPLY]),
         'kinds': kinds(texts[ANSWER]),
         'answers': found(r'Self::(?P<name>\w+)(?:\(_\)| \{ \.\. \})? => (?P<number>\d+),', section(texts[ERROR], 'fn number', '\n    }\n')),
-        'words': words(texts[ANSWER], texts[SESSION], texts[ERROR]),
+        'words': words(texts[ANSWER], texts[SESSION], texts[ERROR], texts[RAW]),
         'faults': found(r'Report::(?P<name>Closed|Error)(?:\(code\))? => raw::fault\(rec, rx, msg, lent, (?P<number>\d+),', texts[SESSION]),
         'features': found(r'(?P<name>\w+) = (?P<number>\d+),', section(texts[FEATURE], 'pub enum Feature', '\n}\n')),
         'flags': found(r'pub const (?P<name>\w+): Self = Self\((?P<number>\w+)\);', texts[NUMBERS]),
-        'record': wanted(texts[RAW]) | found(r'(?P<name>received|consumed|written): number\(rec, (?P<number>\d+)\)', texts[RAW]),
+        'record': record(texts[RAW]),
         'words of a span': span(texts[INDEX]),
         'words of an item': item(texts[INDEX]),
         'kinds of a reply': found(SAID, section(texts[SPEAK], 'fn put(&self', '\n    }\n')),
@@ -84,9 +85,12 @@ def tables(texts):
     }
 
 
-def wanted(text):
-    read = re.search(r'number\((\d+)\)\.saturating_sub\(number\((\d+)\)\)', text)
-    return {'UNTIL': int(read[1]), 'TAIL': int(read[2])} if read else {}
+def record(text):
+    """The record's numbers that the crate reads."""
+    made = found(r'(?P<name>received|consumed|written): number\(rec, (?P<number>\d+)\)', text)
+    made |= found(r'pub fn (?P<name>reads)\([^{]*\{\s*number\(rec, (?P<number>\d+)\)', text)
+    wanted = re.search(r'number\((\d+)\)\.saturating_sub\(number\((\d+)\)\)', text)
+    return made | ({'UNTIL': int(wanted[1]), 'TAIL': int(wanted[2])} if wanted else {})
 
 
 def span(text):

@@ -84,7 +84,7 @@ recorded =
 abbrev pub openedBy : OpenCrossed → Opened (List ℕ)
 openedBy o = record { number = o .number; x = o .rec }
 
--- Any record of the right length may stand there. A reply goes to any slice of 112 bytes or more, whatever stands in it; a call that takes
+-- Any record of the right length may stand there. A reply goes to any slice of 120 bytes or more, whatever stands in it; a call that takes
 -- neither path nor data lends any slice.
 abbrev pub boundary : System (List ℕ)
 boundary =

@@ -74,7 +74,7 @@ sizes =
     ∷ numbered (endKind spare (error 9)) 5
     ∷ numbered (endCode spare (error 9)) 9
     ∷ numbered size 256
-    ∷ numbered outSize 112
+    ∷ numbered outSize 120
     ∷ []
 
 -- ---- a path over the limit that is pending goes on, and the next call is 7 (session/specs/Resuming): what each function returns

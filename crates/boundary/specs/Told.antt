@@ -82,6 +82,6 @@ replyBytes (R.WriteLent at len) = words (at ∷ len ∷ [])
 replyBytes (R.WriteBytes p) = words (length (byValue p) ∷ []) ++ byValue p
 replyBytes R.Close = []
 
--- no reply is longer: kind, start, length and eleven numbers
+-- no reply is longer: kind, start, length, eleven numbers, and the reads of the call (document 02, [8]; totals/specs/Crossing)
 abbrev pub outSize : ℕ
-outSize = 112
+outSize = 120

@@ -31,7 +31,7 @@ path = ascii "/t"
 
 -- with the lengths of the opening
 abbrev fits : Show → (ended : Bool) → Act → Option Answer → Fact (Option Answer)
-fits last ended a p = row last ended a path 16 20 112 p
+fits last ended a p = row last ended a path 16 20 120 p
 
 abbrev idle : Show
 idle = told A.done
@@ -40,14 +40,14 @@ idle = told A.done
 abbrev asks : List Show
 asks = read 3 5 ∷ writeRx 3 5 ∷ writeLent 0 2 ∷ writeBytes path ∷ close ∷ []
 
--- the slices of other lengths: either buffer, and a reply's slice of 111
+-- the slices of other lengths: either buffer, and a reply's slice of 119
 abbrev misfit : Show → (ended : Bool) → Act → List (Fact (Option Answer))
 misfit last ended a =
-    row last ended a path 15 20 112 (some (refused 3))
-    ∷ row last ended a path 17 20 112 (some (refused 3))
-    ∷ row last ended a path 16 19 112 (some (refused 3))
-    ∷ row last ended a path 16 21 112 (some (refused 3))
-    ∷ row last ended a path 16 20 111 (some (refused 3))
+    row last ended a path 15 20 120 (some (refused 3))
+    ∷ row last ended a path 17 20 120 (some (refused 3))
+    ∷ row last ended a path 16 19 120 (some (refused 3))
+    ∷ row last ended a path 16 21 120 (some (refused 3))
+    ∷ row last ended a path 16 20 119 (some (refused 3))
     ∷ []
 
 -- a path of 1,025 bytes; one whose NUL is the first byte behind the limit; both beside a NUL alone; the calls that have a path
@@ -66,7 +66,7 @@ pathCalls = 1 ∷ 2 ∷ 3 ∷ 4 ∷ 5 ∷ 6 ∷ 7 ∷ 8 ∷ []
 abbrev called : List (Fact (Option Answer))
 called =
     fits idle false (start 1 0 0) none
-    ∷ row idle false (start 1 0 0) (ascii "/a/longer/path") 16 20 112 none
+    ∷ row idle false (start 1 0 0) (ascii "/a/longer/path") 16 20 120 none
     ∷ row idle false (start 1 0 0) path 16 20 200 none
     -- 3 before 6, 4 and 5
     ∷ misfit idle false (start 1 0 0)
@@ -79,13 +79,13 @@ called =
     ++ map (λ s. fits s false (start 1 0 0) (some (refused 4))) asks
     ++ map (λ n. fits idle false (start n 3 3) (some (refused 5))) (0 ∷ 15 ∷ 255 ∷ 257 ∷ [])
     -- 3, 6, 4 and 5 before 8 and 7; 8 before 7; both before 9, 9 before 10; the flags are the second number, of 6 and 8
-    ++ map (λ p. row idle true (start 6 3 3) p 15 20 112 (some (refused 3))) badPaths
-    ++ map (λ p. row idle true (start 6 3 3) p 16 20 112 (some (refused 6))) badPaths
-    ++ map (λ p. row (read 3 5) false (start 6 3 3) p 16 20 112 (some (refused 4))) badPaths
-    ++ map (λ p. row idle false (start 15 3 3) p 16 20 112 (some (refused 5))) badPaths
-    ++ map (λ n. row idle false (start n 3 3) longNul 16 20 112 (some (refused 8))) pathCalls
-    ++ map (λ n. row idle false (start n 3 3) long 16 20 112 (some (refused 7))) pathCalls
-    ++ row idle false (start 6 3 3) (0 ∷ []) 16 20 112 (some (refused 8))
+    ++ map (λ p. row idle true (start 6 3 3) p 15 20 120 (some (refused 3))) badPaths
+    ++ map (λ p. row idle true (start 6 3 3) p 16 20 120 (some (refused 6))) badPaths
+    ++ map (λ p. row (read 3 5) false (start 6 3 3) p 16 20 120 (some (refused 4))) badPaths
+    ++ map (λ p. row idle false (start 15 3 3) p 16 20 120 (some (refused 5))) badPaths
+    ++ map (λ n. row idle false (start n 3 3) longNul 16 20 120 (some (refused 8))) pathCalls
+    ++ map (λ n. row idle false (start n 3 3) long 16 20 120 (some (refused 7))) pathCalls
+    ++ row idle false (start 6 3 3) (0 ∷ []) 16 20 120 (some (refused 8))
     ∷ fits idle false (start 6 0 3) (some (refused 9))
     ∷ fits idle false (start 8 0 3) (some (refused 9))
     ∷ fits idle false (start 6 3 0) (some (missing 3))
@@ -99,7 +99,7 @@ reports = hasRead 1 ∷ wrote ∷ fault 0 0 ∷ fault 1 7 ∷ []
 
 -- a report, with a path of another length
 abbrev otherLent : Show → (ended : Bool) → HostReport → Option Answer → Fact (Option Answer)
-otherLent last ended r p = row last ended (report r) (ascii "/") 16 20 112 p
+otherLent last ended r p = row last ended (report r) (ascii "/") 16 20 120 p
 
 abbrev reported : List (Fact (Option Answer))
 reported =
@@ -172,7 +172,7 @@ cases = called ++ reported ++ opening
 -- what the host has seen afterwards: quit has ended once its close is reported, whatever the report; a call's lent length is its own
 abbrev after : Show → Act → Bool × ℕ → Fact (Bool × ℕ)
 after last a p =
-    let s = seenAfter (seen last false) (lending a (ascii "/a/b") 16 20 112) a idle in
+    let s = seenAfter (seen last false) (lending a (ascii "/a/b") 16 20 120) a idle in
     record { computed = (s .ended, s .lent); paper = p }
 
 abbrev pub afterwards : List (Fact (Bool × ℕ))

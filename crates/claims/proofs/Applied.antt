@@ -116,7 +116,7 @@ abbrev pub log : Opening → (statId : List ℕ) → List Entry
 log o i =
     logOf (totals .engine) stumbling twice (atStart (replied i)) (totals .opened (dirty recordSize) o (dirty 16) (dirty 16) .x) (dirty 16) (dirty 16)
 
-coded : CodedHost stumbling
+pub coded : CodedHost stumbling
 coded = record { reads = λ i. reads-coded (eqb i 8); writes = λ i. tt; close = tt; end = tt }
   where
     reads-coded : (b : Bool) → CodedFault (pick b (some (error 5)) none)
@@ -138,7 +138,7 @@ lowered-goes-on = goes-on lowering (ascii "stat") refl (omega arith, omega arith
 
 -- the card, of a stat that is started, and a read of no bytes where a write is awaited
 abbrev started : Act → Event
-started a = record { act = a; lent = ascii "/a"; rx = dirty 16; msg = dirty 16; out = dirty 112 }
+started a = record { act = a; lent = ascii "/a"; rx = dirty 16; msg = dirty 16; out = dirty 120 }
 
 wide : (a : Act) → WideAct a → Wide (started a)
 wide a w = record { act = w; lent = omega arith; msg = omega arith; out = omega arith; rx = below-bytes (dirty 16) refl }

@@ -57,6 +57,10 @@ use Rattle.protocol_readers.specs.Wider.{widen, Unstopped, Like, unreadAt}
 use Rattle.protocol_readers.proofs.Wider as Wider
 use Rattle.protocol_readers.specs.Compared.{Compared}
 use Rattle.protocol_readers.proofs.Compared as Comparing
+use Rattle.protocol_reads.specs.Facts as CountFacts
+use Rattle.protocol_reads.specs.Reads.{ReadsCeiling}
+use Rattle.protocol_reads.proofs.Ceiling as Ceiling
+use Rattle.protocol_reads.proofs.Facts as CountRows
 use Rattle.ids.specs.Ids.{dialectOf, idsOf}
 use Rattle.ids.proofs.Laws as Numbered
 use Rattle.text_lines.specs.Claim.{TextLines}
@@ -96,6 +100,10 @@ use Rattle.session.proofs.Places as Places
 use Rattle.session.proofs.Examples as Logs
 use Rattle.session.proofs.Resuming as Resuming
 use Rattle.session.proofs.Scripted as Scripted
+use Rattle.session_reads.specs.Counted.{EveryRead, SideReads}
+use Rattle.session_reads.specs.Facts as ReadsFacts
+use Rattle.session_reads.proofs.Claims as CoreReads
+use Rattle.session_reads.proofs.Facts as ReadsRows
 use Rattle.boundary.specs.Crossing.{crossIds}
 use Rattle.boundary.specs.Crossings as CrossFacts
 use Rattle.boundary.specs.Heard.{heard}
@@ -108,14 +116,17 @@ use Rattle.boundary_misuse.specs.Cases as CaseFacts
 use Rattle.boundary_misuse.specs.Settled.{SettledClaim}
 use Rattle.boundary_misuse.proofs.Cases as Cases
 use Rattle.totals.specs.Card.{totalBy, CardClaim}
-use Rattle.totals.specs.Claim.{totalSteps, MisuseClaim}
+use Rattle.totals.specs.Claim.{totalSteps, MisuseClaim, CountTold}
 use Rattle.totals.specs.Crossing.{limit, totalOpen}
 use Rattle.totals.specs.Facts as CardFacts
+use Rattle.totals.specs.Logged.{CardLogged, SideCards}
 use Rattle.totals.specs.System.{totals}
 use Rattle.totals.proofs.Card as Card
+use Rattle.totals.proofs.Carried as Carried
 use Rattle.totals.proofs.Claim as Misuse
 use Rattle.totals.proofs.Facts as CardRows
 use Rattle.totals.proofs.Layer as Layer
+use Rattle.totals.proofs.Logged as Logged
 use Rattle.time_index.specs.Claim.{IndexClaim}
 use Rattle.time_index.specs.Facts as IndexFacts
 use Rattle.time_index.specs.Logged.{LoggedClaim}
@@ -144,6 +155,15 @@ demand-3 = Layer.demand-3-totals
 pub every-host : EveryHost (below limit) totals
 every-host = Layer.every-host-totals
 
+-- ... the reads of each call: as many as the plain reader counts, given how long each was; and but for 12 and 13 at most 8 more than the bytes that
+-- it consumed (session_reads/specs/Counted, over protocol_reads/specs/Reads)
+pub every-read : EveryRead (below limit) totals
+every-read = Carried.every-read-totals
+
+-- ... of a side of demand 3, in one list
+pub side-reads : SideReads (below limit) totals
+side-reads = Carried.side-reads-totals
+
 -- files of ids: every table's loads, no other does, and what is loaded or lent is what a session keeps (id_table/specs/Claim)
 pub id-tables : IdTables
 id-tables = Tables.id-tables
@@ -170,6 +190,19 @@ panel-claim = ReadBack.panel-claim (below limit) totals demand-3
 -- every moment (totals/specs/Card)
 pub card : CardClaim
 card = Card.card
+
+-- ... and when a call of a log is over: received is what has come, consumed what the plain reader leaves no longer unread, written the length of what went out, and
+-- the reads those of the call (totals/specs/Logged)
+pub card-logged : CardLogged
+card-logged = Logged.card-logged
+
+-- ... of a side of demand 3, as the plain reader has it
+pub side-cards : SideCards
+side-cards = Logged.side-cards
+
+-- the reads in a reply that tells an answer are the record's, and a refusal has none, on any record (totals/specs/Claim)
+pub count-told : CountTold
+count-told = Misuse.count-told
 
 -- opening, by its table; the calls by their numbers; a refusal leaves any record unchanged (totals/specs/Claim)
 pub misuse : MisuseClaim
@@ -199,6 +232,16 @@ core-claim = Core.core-claim
 
 pub core-hosts : EveryHost unbounded coreSystem
 core-hosts = Core.core-hosts
+
+pub core-reads : EveryRead unbounded coreSystem
+core-reads = CoreReads.core-reads
+
+-- ---- the plain reader's reads
+
+-- "every call ending in anything but 12 or 13 accepted at most 8 more reads than bytes it consumed": of any call, on any bytes, any of which have come,
+-- whatever the reads and the report of its writes (protocol_reads/specs/Reads)
+pub reads-ceiling : ReadsCeiling
+reads-ceiling = Ceiling.reads-ceiling
 
 -- ---- two plain readers, with capacities c ≤ d
 
@@ -377,16 +420,35 @@ crossings-hold = (
 pub read-back-holds : Hold ReadBackFacts.capacities × Hold ReadBackFacts.answers
 read-back-holds = (ReadBackRows.capacities-hold, ReadBackRows.answers-hold)
 
+-- reads: of lists of calls, of writes that are not accepted, which answers come by the link, the ceiling; of logs
+pub counts-hold : Hold CountFacts.turns × Hold CountFacts.ceilings × Hold CountFacts.broken × Hold CountFacts.endings × CountFacts.Ceilings
+counts-hold = (CountRows.turns-hold, CountRows.ceilings-hold, CountRows.broken-hold, CountRows.endings-hold, CountRows.ceilings-mean)
+
+pub logged-reads : Hold ReadsFacts.reads × ReadsFacts.Counting × ReadsFacts.Ceiling
+logged-reads = (ReadsRows.reads-hold, ReadsRows.counting, ReadsRows.ceiling)
+
 -- the card: what each event adds, what is refused, where the numbers lie; sessions, moment by moment
 pub sums-hold : Hold CardFacts.added × Hold CardFacts.refusals × Hold CardFacts.places × Hold CardFacts.opening
 sums-hold = (CardRows.added-hold, CardRows.refusals-hold, CardRows.places-hold, CardRows.opening-holds)
 
-pub card-runs-hold : Hold CardFacts.stats × Hold CardFacts.drains × Hold CardFacts.closes × Hold CardFacts.overs × Hold CardFacts.replies
-card-runs-hold = (CardRows.stats-hold, CardRows.drains-hold, CardRows.closes-hold, CardRows.overs-hold, CardRows.replies-hold)
+pub card-runs-hold : Hold CardFacts.stats × Hold CardFacts.pulls × Hold CardFacts.pushes × Hold CardFacts.drains × Hold CardFacts.closes × Hold CardFacts.overs × Hold CardFacts.replies
+card-runs-hold = (
+  CardRows.stats-hold,
+  CardRows.pulls-hold,
+  CardRows.pushes-hold,
+  CardRows.drains-hold,
+  CardRows.closes-hold,
+  CardRows.overs-hold,
+  CardRows.replies-hold,
+)
 
--- ... what shows the sums and what does not; how many bytes the comparisons' bound lets through
-pub card-words : CardFacts.Shown × CardFacts.Bounded
-card-words = (CardRows.shown, CardRows.bounded)
+-- ... the plain reader's consumed and written, and which numbers of a record are compared with them
+pub plain-cards-hold : Hold CardFacts.plains × Hold CardFacts.showings
+plain-cards-hold = (CardRows.plains-hold, CardRows.showings-hold)
+
+-- ... what shows the sums and what does not, at any moment and when a call is over; how many bytes the comparisons' bound lets through
+pub card-words : CardFacts.Shown × CardFacts.Momentary × CardFacts.Ended × CardFacts.Bounded
+card-words = (CardRows.shown, CardRows.momentary, CardRows.ended, CardRows.bounded)
 
 -- the panel's request reader, decimals, modes, the ids
 pub receiving-holds : Hold ReceiveFacts.receiving

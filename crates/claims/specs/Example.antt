@@ -47,7 +47,7 @@ host =
       writes = λ i. accepted;
       close = accepted;
       end = closed;
-      spare = λ w. record { out = dirty 115; lent = 1 ∷ 2 ∷ 3 ∷ []; first = 5; second = 7; kind = 41; code = 9 };
+      spare = λ w. record { out = dirty 123; lent = 1 ∷ 2 ∷ 3 ∷ []; first = 5; second = 7; kind = 41; code = 9 };
     }
 
 abbrev pub stumbling : Host

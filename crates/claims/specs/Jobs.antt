@@ -17,7 +17,7 @@ abbrev word : ℕ → List ℕ
 word n = n ∷ 0 ∷ 0 ∷ 0 ∷ 0 ∷ 0 ∷ 0 ∷ 0 ∷ []
 
 abbrev pub reply : (mtime : ℕ) → List ℕ
-reply t = word 4 ++ word 2 ++ word 1 ++ word 128 ++ word 98 ++ word t ++ replicate 64 7
+reply t = word 4 ++ word 2 ++ word 1 ++ word 128 ++ word 98 ++ word t ++ replicate 72 7
 
 abbrev tell : (mtime : ℕ) → (rx : String) → Tell
 tell t rx = record { told = 0; reply = reply t; rx = ascii rx; msg = [] }

@@ -31,9 +31,9 @@ abbrev fileBytes : List ℕ
 fileBytes = 0xa4 ∷ 0x81 ∷ 0 ∷ 0 ∷ 0xce ∷ 7 ∷ 0 ∷ 0 ∷ 5 ∷ 0 ∷ 0 ∷ 0 ∷ []
 
 module _ (settings : List ℕ) where
-  -- into a buffer of 80 bytes, the length into a slice of 112; both have bytes already
+  -- into a buffer of 80 bytes, the length into a slice of 120; both have bytes already
   abbrev pub say : (kind : ℕ) → (numbers lent : List ℕ) → Utterance
-  say k numbers lent = record { settings = settings; kind = k; numbers = numbers; lent = lent; out = dirty 80; told = dirty 112 }
+  say k numbers lent = record { settings = settings; kind = k; numbers = numbers; lent = lent; out = dirty 80; told = dirty 120 }
 
   abbrev no : Utterance
   no = say 7 [] (ascii "no")

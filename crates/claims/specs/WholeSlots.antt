@@ -37,10 +37,10 @@ three′ = three ++ replicate 65488 0
 -- how many and the first rank; another area, too short a slice
 abbrev pub asking : List (Fact (List ℕ × ℕ))
 asking =
-    row (crossIndexBetween three′ 9 (pos 3) (pos 5) out) (word 3 ++ word 0 ++ replicate 96 46, 0)
-    ∷ row (crossIndexBetween three′ 9 (pos 5) (pos 4) out) (word 0 ++ word 1 ++ replicate 96 46, 0)
+    row (crossIndexBetween three′ 9 (pos 3) (pos 5) out) (word 3 ++ word 0 ++ replicate 104 46, 0)
+    ∷ row (crossIndexBetween three′ 9 (pos 5) (pos 4) out) (word 0 ++ word 1 ++ replicate 104 46, 0)
     ∷ row (crossIndexBetween three′ 8 (pos 3) (pos 5) out) (out, 3)
-    ∷ row (crossIndexBetween three′ 9 (pos 3) (pos 5) (replicate 111 46)) (replicate 111 46, 3)
-    ∷ row (crossIndexLatest three′ 9 (pos 5) out) (word 1 ++ word 1 ++ replicate 96 46, 0)
-    ∷ row (crossIndexEntry three′ 9 0 out) (word 1 ++ word 1 ++ word 2 ++ word 1 ++ word 3 ++ replicate 72 46, 0)
+    ∷ row (crossIndexBetween three′ 9 (pos 3) (pos 5) (replicate 119 46)) (replicate 119 46, 3)
+    ∷ row (crossIndexLatest three′ 9 (pos 5) out) (word 1 ++ word 1 ++ replicate 104 46, 0)
+    ∷ row (crossIndexEntry three′ 9 0 out) (word 1 ++ word 1 ++ word 2 ++ word 1 ++ word 3 ++ replicate 80 46, 0)
     ∷ []

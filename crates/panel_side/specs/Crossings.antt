@@ -213,14 +213,14 @@ abbrev buffer : ℕ → List ℕ
 buffer n = replicate n 7
 
 abbrev slice : List ℕ
-slice = replicate 112 9
+slice = replicate 120 9
 
 abbrev speaks : (k : ℕ) → (numbers lent out : List ℕ) → Spoken → Fact Spoken
 speaks k n lent out s = row (crossSpeak published k n lent out slice) s
 
 -- a reply, then the rest of the buffer; its length, then the rest of the slice
 abbrev answer : (reply rest : List ℕ) → (len : ℕ) → Spoken
-answer reply rest len = spoke (reply ++ rest) (len ∷ zeros 7 ++ replicate 104 9) 0
+answer reply rest len = spoke (reply ++ rest) (len ∷ zeros 7 ++ replicate 112 9) 0
 
 abbrev pub speaking : List (Fact Spoken)
 speaking =
@@ -253,13 +253,13 @@ turned s k told n = row (crossSpeak s k [] [] (buffer 10) told) (spoke (buffer 1
 
 abbrev pub turnedAway : List (Fact Spoken)
 turnedAway =
-    turned published 0 (replicate 111 9) 3
+    turned published 0 (replicate 119 9) 3
     ∷ turned (take 127 published) 0 slice 3
     ∷ turned (published ++ 0 ∷ []) 0 slice 3
     ∷ turned malformed 0 slice 22
     ∷ turned doubled 0 slice 23
     -- 3 for the slice, then the settings, then 3 for the kind
-    ∷ turned doubled 10 (replicate 111 9) 3
+    ∷ turned doubled 10 (replicate 119 9) 3
     ∷ turned malformed 10 slice 22
     ∷ turned doubled 10 slice 23
     ∷ []
@@ -279,7 +279,7 @@ eights [] = []
 eights (n ∷ ns) = n ∷ zeros 7 ++ eights ns
 
 abbrev hears : (bytes words : List ℕ) → Fact Answer
-hears b w = row (crossHeard published b slice) (w ++ replicate 64 9, 0)
+hears b w = row (crossHeard published b slice) (w ++ replicate 72 9, 0)
 
 -- 33188, in eight bytes
 abbrev mode : List ℕ
@@ -325,11 +325,11 @@ unheard =
     refuses published (asks (ascii "STAX") (ascii "/a") 2) slice 18
     ∷ refuses published (ascii "OKAY" ++ zeros 4) slice 18
     ∷ refuses published (ascii "QUIT" ++ 1 ∷ 0 ∷ 0 ∷ 0 ∷ []) slice 18
-    ∷ refuses published (asks (ascii "STAT") (ascii "/a") 2) (replicate 111 9) 3
+    ∷ refuses published (asks (ascii "STAT") (ascii "/a") 2) (replicate 119 9) 3
     ∷ refuses (take 127 published) (asks (ascii "STAT") (ascii "/a") 2) slice 3
     ∷ refuses malformed (asks (ascii "STAT") (ascii "/a") 2) slice 22
     ∷ refuses doubled (asks (ascii "STAT") (ascii "/a") 2) slice 23
     -- 3 for the slice, then the settings, then 18
-    ∷ refuses doubled (asks (ascii "STAX") (ascii "/a") 2) (replicate 111 9) 3
+    ∷ refuses doubled (asks (ascii "STAX") (ascii "/a") 2) (replicate 119 9) 3
     ∷ refuses doubled (asks (ascii "STAX") (ascii "/a") 2) slice 23
     ∷ []

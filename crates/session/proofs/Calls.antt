@@ -173,7 +173,7 @@ call-ok h w s q good i = go (refusal (settingOf (s .ses)) q) refl (begins (h .sp
     go none r b = rw (b .1) (open-ok h w s good (b .0) q r [] (composed-none q (length (held s))))
     go (some a) r b =
         rw (refused h w s q a good i r)
-        (record { good = good; still = i; config = rw (b .1 .0); same = rw r; heeds = record { asks = tt; pieces = rw r; composed = composed-none q (length (held s)); closes = sym (b .1 .1); windows = tt }; ends = rw r; kept = rw r })
+        (record { good = good; still = i; config = rw (b .1 .0); same = rw r; heeds = record { asks = tt; pieces = rw r; composed = composed-none q (length (held s)); closes = sym (b .1 .1); windows = tt }; settled = λ x. rw r refl; ends = rw r; kept = rw r })
 
 -- ---- every list of calls
 
@@ -189,6 +189,7 @@ module _ (h : Host) where
       answer = sym (ap (λ (y : Reply). y .answer) (c .same));
       unread = sym (ap (λ (y : Reply). y .unread) (c .same));
       asks = c .heeds .asks;
+      settled = c .settled;
       pieces = c .heeds .pieces;
       composed = c .heeds .composed;
       closes = c .heeds .closes;

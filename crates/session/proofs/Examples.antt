@@ -14,7 +14,7 @@ use Rattle.protocol.specs.Messages.{bytesOfRequest, messageOf, apart, pieces}
 use Rattle.protocol.specs.Reader.{plain, written}
 use Rattle.protocol.specs.Records.{statAt}
 use Rattle.session.specs.Faithful.{failText}
-use Rattle.session.specs.Examples.{Examples, incoming}
+use Rattle.session.specs.Examples.{Examples, incoming, foreign}
 
 -- two things that a test tells apart are not the same
 apart-by : {A : Type 0} (test : A → Bool) (x y : A) → test x ≡ true → test y ≡ false → x ≡ y → ⊥
@@ -35,6 +35,7 @@ examples =
           record { come = take 5 incoming; n = 8; split = refl; falls = refl; fits = omega arith; fewer = omega arith; window = omega arith; inside = refl; behind = refl },
           (omega arith, (record { come = []; n = 8; split = refl; falls = refl; fits = omega arith; fewer = omega arith; window = omega arith; inside = refl; behind = refl }, (tt, tt))),
         );
+        settled = λ b. refl;
         pieces = refl;
         composed = (refl, tt);
         closes = refl;
@@ -50,6 +51,25 @@ examples =
       closes = λ a. longer 1 _ _ refl refl (a .closes);
       ends = λ a. absurd (omega (arith, a .ends));
       kept-bytes = λ a. apart-by (λ l. eqb (getD l 0 0) 8) _ _ refl refl (a .kept);
+      reads-too-few = λ a. true≢false (sym (a .settled (omega arith)));
+      fifteen =
+          record {
+            answer = refl;
+            unread = refl;
+            asks = (
+              record { come = take 4 foreign; n = 8; split = refl; falls = refl; fits = omega arith; fewer = omega arith; window = omega arith; inside = refl; behind = refl },
+              (omega arith, (record { come = []; n = 8; split = refl; falls = refl; fits = omega arith; fewer = omega arith; window = omega arith; inside = refl; behind = refl }, (tt, tt))),
+            );
+            settled = λ b. refl;
+            pieces = refl;
+            composed = (refl, tt);
+            closes = refl;
+            windows = (refl, (refl, tt));
+            ends = refl;
+            kept = refl;
+          };
+      no-reads = λ a. true≢false (sym (a .settled tt));
+      fifteen-early = λ a. true≢false (sym (a .settled (omega arith)));
       reads-early = λ a. longer 0 _ _ refl refl (a .asks .0 .behind);
       reads-sated = λ a. absurd (omega (arith, a .asks .0 .fits, a .asks .0 .fewer));
       reads-half = λ a. absurd (omega (arith, a .asks .0 .inside));

@@ -6,6 +6,7 @@ use mathlib.Core.List.{List, [], _∷_, _++_}
 use mathlib.Core.Path.{_≡_, refl, sym, ap, _∙_, subst}
 use native.Mathlib.Omega.{arith}
 use lib.ListN.{length}
+use lib.Seq.{take-append-seam}
 use Rattle.protocol.specs.Answers as P
 use Rattle.protocol.specs.Answers.{End, closed, error}
 use Rattle.protocol.specs.Bytes.{pick}
@@ -68,6 +69,7 @@ module _ (c : Site) (lets : LetIn c) where
           config = ap (λ (ψ : Frame). configIn ψ (c .host .close)) (x .frame) ∙ config;
           same = rw (program-is c lets (outcomeOf bs) ∙ e, x .same);
           heeds = heeds xs i bs is d p;
+          settled = λ b. rw (program-is c lets (outcomeOf bs) ∙ e) refl;
           ends = x .place;
           kept = rw (program-is c lets (outcomeOf bs) ∙ e) (x .msg);
         })
@@ -86,7 +88,7 @@ module _ (c : Site) (lets : LetIn c) where
         let G : List ℕ → Result = λ y. plain (c .state .ses .capacity) (program (reader c) (outcomeOf bs) (c .call)) (held t ++ y) in
         reading-ok (c .host) (reader c) (c .call) (unread c) (length (held (c .state))) (c .state .ses .buf .tail) (c .state .msg) φ lost (outcomeOf bs) (lent c) live refl config z f (wrote c i xs bs is) (held t) o
         (omega arith) refl refl
-        (ap (λ (y : List ℕ). y ++ c .world .left) (sym (m .same))) tt (heeds xs i bs is d p)
+        (ap (λ (y : List ℕ). y ++ c .world .left) (sym (m .same))) (take-append-seam (held (c .state)) (c .world .left) ∙ sym (m .same)) tt (heeds xs i bs is d p)
         (kept-eq φ lost G (at t (Header x)) o
         (λ y. ap (λ (k : Prog). plain (c .state .ses .capacity) k (held t ++ y)) (program-is c lets (outcomeOf bs)) ∙ e (t .msg) (held t ++ y)
         ∙ ap (λ (ψ : Frame). plain (ψ .capacity) (restOf (dialectOf (ψ .ids)) (ψ .capacity) (t .msg) (Header x)) (held t ++ y)) (sym (m .frame)))
@@ -147,6 +149,7 @@ module _ (c : Site) (lets : LetIn c) where
             config = rw quits (ap (λ (ψ : Frame). configIn (ended ψ) (c .host .close)) (x .frame));
             same = rw (program-is c lets (outcomeOf bs) ∙ e ∙ ap answer (told failed), x .same);
             heeds = record { asks = tt; pieces = p; composed = d; closes = rw (quits, live); windows = tt };
+            settled = λ b. rw (program-is c lets (outcomeOf bs) ∙ e) refl;
             ends = x .place;
             kept = rw (program-is c lets (outcomeOf bs) ∙ e) (x .msg);
           })

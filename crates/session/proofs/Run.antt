@@ -2,14 +2,14 @@
 -- bytes come in reads of any counts, each asked at a need of the plain reader, until there is an answer or the end error.
 -- Assumes nothing.
 use Prim.Native.Nat.{ℕ, zero, suc, _+_, _-_, _≤_, _<_}
-use mathlib.Core.Bool.{Bool, false}
+use mathlib.Core.Bool.{Bool, true, false}
 use mathlib.Core.List.{List, [], _∷_, _++_, append-assoc, append-nil}
 use mathlib.Core.Option.{Option, none, some}
 use mathlib.Core.Path.{_≡_, refl, sym, ap, _∙_, subst}
 use native.Mathlib.Omega.{arith}
 use borrow.Author.Tests.{lt-ltb, le-leb, eq-eqb}
 use lib.ListN.{length, take, drop, length-append, length-drop, take-append-drop}
-use lib.Seq.{length-take-le, take-at}
+use lib.Seq.{length-take-le, take-at, take-append-add}
 use Rattle.protocol.specs.Answers as P
 use Rattle.protocol.specs.Answers.{End, closed, error}
 use Rattle.protocol.specs.Bytes.{pick}
@@ -31,7 +31,7 @@ use Rattle.session.specs.declared.Reply.the-variants as R
 use Rattle.session.specs.declared.Session.{Session}
 use Rattle.session.specs.Calls.{isIdle}
 use Rattle.session.specs.Core.{faultOf, stepOf, core}
-use Rattle.session.specs.Faithful.{AtNeed, Brought, AllAtNeeds, callPieces, Accepted, closesFor, Composed, restsAt, tailAfter, windowAt, Placed, textOf, keeping, cameOf, replyOf}
+use Rattle.session.specs.Faithful.{AtNeed, Brought, AllAtNeeds, callPieces, Accepted, closesFor, Composed, restsAt, tailAfter, windowAt, Placed, textOf, keeping, cameBy, comesOut, cameOf, replyOf}
 use Rattle.session.specs.Host.{Step, Host, Ask, Stop, World, outcomeOf, hasRead, hasStopped, counted, filling, windowed, Run, over-with, unended, grantRead, granted, run}
 use Rattle.session.specs.Phases.{wants}
 use Rattle.session.specs.Reports.{reportRefusal, refusalAt, readIn, readAt, reportRead, wroteAt, reportWrote, faultAnswer, faultAt, reportFault}
@@ -71,6 +71,7 @@ pub record Over (g : Config) (e : End) (q : Call) (v : List ℕ) (n z : ℕ) (m 
   pub config : configOf (t .ses) (g .close) ≡ configAfter g q
   pub same : replyOf (w .stopped) g e (outcomeOf (w .broken)) q v ≡ record { answer = a; unread = held t ++ w .left }
   pub heeds : Heeds g q v n z w
+  pub settled : Brought (w .asks) → comesOut (plain (g .capacity) (program g (outcomeOf (w .broken)) q) (cameBy n v (w .asks))) ≡ true
   pub ends : t .ses .buf .tail ≡ tailAfter (restsAt g (outcomeOf (w .broken)) q n z) (w .asks)
   pub kept : t .msg ≡ keeping (textOf g (outcomeOf (w .broken)) q (cameOf (w .stopped) v)) m
 
@@ -140,13 +141,13 @@ module _ (h : Host) (g : Config) (q : Call) (v : List ℕ) (n z : ℕ) (m : List
   M x = keeping (textOf g r q x) m
 
   -- one step of the run, in the world w where the bytes u of v have come
-  module _ (w : World) (u : List ℕ) (t : St) (is : outcomeOf (w .broken) ≡ r) (on-time : w .stopped ≡ none) (come : v ≡ u ++ w .left) (brought : Brought (w .asks)) (heeds : Heeds g q v n z w)
+  module _ (w : World) (u : List ℕ) (t : St) (is : outcomeOf (w .broken) ≡ r) (on-time : w .stopped ≡ none) (come : v ≡ u ++ w .left) (by : cameBy n v (w .asks) ≡ u) (brought : Brought (w .asks)) (heeds : Heeds g q v n z w)
       (place : t .ses .buf .tail ≡ tailIn (g .capacity) (t .ses .pending) (length (held t)) (tail w))
       (texts : (x : List ℕ) → M (u ++ x) ≡ textIn (g .setting .dialect) (g .capacity) (t .ses .pending) (t .msg) (held t ++ x))
       (k : World → Step Session → Run Session)
       (ends : (w′ : World) (t′ : St) (a : Answer) → k w′ (stepOf (telling t′ a)) ≡ over-with (t′ .ses) (t′ .rx) (t′ .msg)
       (paper (t′ .rx) (t′ .msg) a) w′)
-      (on : (w′ : World) (u′ : List ℕ) (o : Out) → length (w′ .left) < length (w .left) → outcomeOf (w′ .broken) ≡ r → w′ .stopped ≡ none → v ≡ u′ ++ w′ .left → Brought (w′ .asks) → Heeds g q v n z w′
+      (on : (w′ : World) (u′ : List ℕ) (o : Out) → length (w′ .left) < length (w .left) → outcomeOf (w′ .broken) ≡ r → w′ .stopped ≡ none → v ≡ u′ ++ w′ .left → cameBy n v (w′ .asks) ≡ u′ → Brought (w′ .asks) → Heeds g q v n z w′
       → Kept φ lost (λ x. G (u′ ++ x)) o → Tails (g .capacity) (tail w′) o → Texts (g .setting .dialect) (g .capacity) (λ x. M (u′ ++ x)) o → Ok (k w′ (stepOf o))) where
     -- the plain reader is given all of v
     given-all : replyOf (w .stopped) g (h .end) (outcomeOf (w .broken)) q v ≡ reply (endOf (h .end) r q) (G (u ++ w .left))
@@ -231,11 +232,11 @@ module _ (h : Host) (g : Config) (q : Call) (v : List ℕ) (n z : ℕ) (m : List
       -- the read comes to the fault e, in the world w′
       module _ (e : End) (w′ : World) (f : ℕ → ℕ) where
         stop-ok : replyOf (w′ .stopped) g (h .end) (outcomeOf (w′ .broken)) q v ≡ record { answer = P.broken (endOf e r q); unread = held t ++ w′ .left }
-            → Heeds g q v n z w′ → tailAfter (restsAt g (outcomeOf (w′ .broken)) q n z) (w′ .asks) ≡ i + 0
+            → Heeds g q v n z w′ → (Brought (w′ .asks) → ⊥) → tailAfter (restsAt g (outcomeOf (w′ .broken)) q n z) (w′ .asks) ≡ i + 0
             → keeping (textOf g (outcomeOf (w′ .broken)) q (cameOf (w′ .stopped) v)) m ≡ t .msg
             → Ok (k w′ (stepOf (reportFault (st (t .ses) (windowed f (t .rx) i len []) (t .msg)) (length lent) (faultOf e))))
         unfolding faultAt
-        stop-ok same heeds′ place′ kept =
+        stop-ok same heeds′ nothing place′ kept =
             let rx : List ℕ = windowed f (t .rx) i len [] in
             let t₁ : St = st (t .ses) rx (t .msg) in
             let a : Answer = pick lost A.Closed (faultAnswer (faultOf e)) in
@@ -249,6 +250,7 @@ module _ (h : Host) (g : Config) (q : Call) (v : List ℕ) (n z : ℕ) (m : List
               same = same ∙ ap (λ (b : P.Answer). record { answer = b; unread = held t ++ w′ .left }) (sym (end-told e rx (t .msg)))
                   ∙ ap (λ (y : List ℕ). record { answer = paper rx (t .msg) a; unread = y ++ w′ .left }) (sym (window-held f [] (omega arith)));
               heeds = heeds′;
+              settled = λ b. absurd (nothing b);
               ends = omega (arith, x, place′);
               kept = sym kept;
             }))
@@ -257,7 +259,7 @@ module _ (h : Host) (g : Config) (q : Call) (v : List ℕ) (n z : ℕ) (m : List
       end-ok : length (w .left) ≡ 0 → (f : ℕ → ℕ)
           → Ok (k (hasRead 0 (ask 0) w) (stepOf (reportFault (st (t .ses) (windowed f (t .rx) i len []) (t .msg)) (length lent) (faultOf (h .end)))))
       end-ok empty f =
-          stop-ok (h .end) (hasRead 0 (ask 0) w) f (given-all ∙ ap (reply (endOf (h .end) r q)) (falls (w .left) empty)) (read-heeds 0) refl
+          stop-ok (h .end) (hasRead 0 (ask 0) w) f (given-all ∙ ap (reply (endOf (h .end) r q)) (falls (w .left) empty)) (read-heeds 0) (λ b. absurd (omega (arith, b))) refl
           (in-the-end ∙ text-stays (w .left) empty)
 
       -- the read comes to a fault too early: the plain reader is given u alone
@@ -273,7 +275,7 @@ module _ (h : Host) (g : Config) (q : Call) (v : List ℕ) (n z : ℕ) (m : List
           (ap (λ (r′ : Report). plainCall g e r′ q (take (length v - length (w .left)) v)) is
           ∙ ap (λ (y : List ℕ). reply (endOf e r q) (G y)) front ∙ ap (reply (endOf e r q)) (falls [] refl))
           ∙ ap (λ (y : List ℕ). record { answer = P.broken (endOf e r q); unread = y ++ w .left }) nothing)
-          (record { asks = read-heeds 0 .asks; pieces = heeds .pieces; composed = heeds .composed; closes = heeds .closes; windows = read-heeds 0 .windows }) refl
+          (record { asks = read-heeds 0 .asks; pieces = heeds .pieces; composed = heeds .composed; closes = heeds .closes; windows = read-heeds 0 .windows }) (λ b. absurd (omega (arith, b))) refl
           (ap (λ (r′ : Report). keeping (textOf g r′ q (take (length v - length (w .left)) v)) m) is ∙ ap M front ∙ texts [] ∙ text-stays [] refl)
 
       -- some of it came
@@ -284,9 +286,13 @@ module _ (h : Host) (g : Config) (q : Call) (v : List ℕ) (n z : ℕ) (m : List
           let y : List ℕ = take j (w .left) in
           let e : length y ≡ j = length-take-le j (w .left) c in
           let t₁ : St = st (t .ses) (windowed f (t .rx) i len y) (t .msg) in
+          let so-many : length (u ++ w .left) - length (w .left) + j ≡ length u + j = omega (arith, length-append u (w .left)) in
           let until : ℕ → Out = λ m. readIn t₁ p (t .ses .buf .head + wants (t .ses .capacity) p) lost m in
           on (hasRead j (ask j) w) (u ++ y) (reportRead t₁ (length lent) j) (omega (arith, length-drop j (w .left))) is on-time
-          (come ∙ ap (λ (z : List ℕ). u ++ z) (sym (take-append-drop j (w .left))) ∙ sym (append-assoc u y (drop j (w .left)))) (omega arith) (read-heeds j)
+          (come ∙ ap (λ (z : List ℕ). u ++ z) (sym (take-append-drop j (w .left))) ∙ sym (append-assoc u y (drop j (w .left))))
+          (ap (λ (x′ : List ℕ). take (length x′ - length (w .left) + j) x′) come
+          ∙ ap (λ (i′ : ℕ). take i′ (u ++ w .left)) so-many ∙ take-append-add u (w .left) j)
+          (omega arith) (read-heeds j)
           (subst (λ (o : Out). Kept φ lost (λ z. G (u ++ y ++ z)) o)
           (sym (read-step t₁ (length lent) (window-good f y (omega arith)) ended lends _ (x .pend) refl j))
           (kept-eq φ lost (λ z. G (u ++ y ++ z)) (λ z. G (u ++ (y ++ z))) (until j) (λ z. ap G (append-assoc u y z))
@@ -321,6 +327,7 @@ module _ (h : Host) (g : Config) (q : Call) (v : List ℕ) (n z : ℕ) (m : List
           config = ap (λ (ψ : Frame). configIn ψ (g .close)) (x .frame) ∙ config;
           same = given-all ∙ ap (reply (endOf (h .end) r q)) (x .same (w .left));
           heeds = heeds;
+          settled = λ b. rw (is, by) (ap comesOut (ap G (sym (append-nil u)) ∙ x .same []));
           ends = place ∙ ap (λ (y : Pending). tailIn (g .capacity) y (length (held t)) (tail w)) (x .still);
           kept = sym (in-the-end ∙ ap (λ (z : Pending). textIn (g .setting .dialect) (g .capacity) z (t .msg) (held t ++ w .left)) (x .still));
         }
@@ -333,10 +340,10 @@ module _ (h : Host) (g : Config) (q : Call) (v : List ℕ) (n z : ℕ) (m : List
     reply-ok (R.WriteBytes b) x = absurd x
     reply-ok R.Close x = absurd x
 
-  pub reading-ok : (f : ℕ) (w : World) (u : List ℕ) (o : Out) → length (w .left) + 1 < f → outcomeOf (w .broken) ≡ r → w .stopped ≡ none → v ≡ u ++ w .left → Brought (w .asks) → Heeds g q v n z w
+  pub reading-ok : (f : ℕ) (w : World) (u : List ℕ) (o : Out) → length (w .left) + 1 < f → outcomeOf (w .broken) ≡ r → w .stopped ≡ none → v ≡ u ++ w .left → cameBy n v (w .asks) ≡ u → Brought (w .asks) → Heeds g q v n z w
       → Kept φ lost (λ x. G (u ++ x)) o → Tails (g .capacity) (tail w) o → Texts (g .setting .dialect) (g .capacity) (λ x. M (u ++ x)) o → Ok (run core h lent f w (stepOf o))
   unfolding run
-  reading-ok zero w u o l is on-time come brought heeds x place texts = absurd (omega arith)
-  reading-ok (suc f) w u o l is on-time come brought heeds x place texts =
-      reply-ok w u (o .st) is on-time come brought heeds place texts (λ w′ s′. run core h lent f w′ s′) (λ w′ t a. run-told h lent f w′ t a (omega arith))
-      (λ w′ u′ o′ m is′ on-time′ come′ brought′ heeds′ y place′ texts′. reading-ok f w′ u′ o′ (omega arith) is′ on-time′ come′ brought′ heeds′ y place′ texts′) (o .reply) x
+  reading-ok zero w u o l is on-time come by brought heeds x place texts = absurd (omega arith)
+  reading-ok (suc f) w u o l is on-time come by brought heeds x place texts =
+      reply-ok w u (o .st) is on-time come by brought heeds place texts (λ w′ s′. run core h lent f w′ s′) (λ w′ t a. run-told h lent f w′ t a (omega arith))
+      (λ w′ u′ o′ m is′ on-time′ come′ by′ brought′ heeds′ y place′ texts′. reading-ok f w′ u′ o′ (omega arith) is′ on-time′ come′ by′ brought′ heeds′ y place′ texts′) (o .reply) x

@@ -65,6 +65,19 @@ entry answer asks pieces composed closes unread ends after =
       kept = after;
     }
 
+-- a header that a stat does not take, and a log of it: 15 with these reads
+abbrev pub foreign : List ℕ
+foreign = ascii "QUIT" ++ 0 ∷ 0 ∷ 0 ∷ 0 ∷ []
+
+abbrev Strange : List Ask → (ends : ℕ) → Type 0
+Strange xs n = AsReader config (error 7) statCall foreign (entry (A.unexpected (ascii "QUIT")) xs (message ∷ []) (0 ∷ []) [] foreign n kept)
+
+abbrev half-header : Ask
+half-header = asking foreign [] 0 16 (message ∷ []) 4
+
+abbrev whole-header : Ask
+whole-header = asking (drop 4 foreign) (take 4 foreign) 4 12 (message ∷ []) 4
+
 abbrev Right : Entry → Type 0
 Right x = AsReader config (error 7) statCall incoming x
 
@@ -114,6 +127,11 @@ pub record Examples : Type 0 where
   pub closes : Wrong (entry found reads (message ∷ []) (0 ∷ []) ([] ∷ []) [] 16 kept)
   pub ends : Wrong (entry found reads (message ∷ []) (0 ∷ []) [] [] 15 kept)
   pub kept-bytes : Wrong (entry found reads (message ∷ []) (0 ∷ []) [] [] 16 (8 ∷ replicate 19 7))
+  pub reads-too-few : Wrong (entry found (first ∷ []) (message ∷ []) (0 ∷ []) [] [] 5 kept)
+  pub no-reads : Wrong (entry found [] (message ∷ []) (0 ∷ []) [] [] 0 kept)
+  -- 15 once a header has come, and not before: its id alone is not enough
+  pub fifteen : Strange (whole-header ∷ half-header ∷ []) 8
+  pub fifteen-early : Strange (half-header ∷ []) 4 → ⊥
   pub reads-early : Wrong (entry found (early ∷ []) (message ∷ []) (0 ∷ []) [] [] 16 kept)
   pub reads-sated : Wrong (entry found (sated ∷ []) (message ∷ []) (0 ∷ []) [] [] 16 kept)
   pub reads-half : Wrong (entry found (half ∷ []) (message ∷ []) (0 ∷ []) [] [] 16 kept)

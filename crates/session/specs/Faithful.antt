@@ -13,7 +13,7 @@ use Rattle.protocol.specs.Calls.{Call, call, nextEntry, nextChunk, messages}
 use Rattle.protocol.specs.Refusal.{refusal}
 use Rattle.protocol.specs.Ids.{Dialect, FAIL}
 use Rattle.protocol.specs.Messages.{Request, ask, rcv2, send, snd2, chunk, done, quit, pieces}
-use Rattle.protocol.specs.Reader.{Prog, answer, need, skip, Config, Report, accepted, broke, short, plain, program, configAfter, Reply, plainCall, isQuit}
+use Rattle.protocol.specs.Reader.{Prog, answer, need, skip, Config, Report, accepted, broke, Result, ended as out, short, plain, program, configAfter, Reply, plainCall, isQuit}
 use Rattle.protocol.specs.Records.{idAt, argAt, headerSize}
 use Rattle.session.specs.Host.{Ask, Broken, Stop, outcomeOf, Entry}
 
@@ -41,6 +41,15 @@ Brought (a ∷ more) = 0 < a .brought
 abbrev pub AllAtNeeds : Config → Report → Call → List ℕ → List (List ℕ) → List Ask → Type 0
 AllAtNeeds g r q v ps [] = Unit {0}
 AllAtNeeds g r q v ps (a ∷ more) = AtNeed g r q v ps a × (Brought more × AllAtNeeds g r q v ps more)
+
+-- of the unread bytes v, n of which were held when the call began, those that had come when it was over
+abbrev pub cameBy : ℕ → List ℕ → List Ask → List ℕ
+cameBy n v [] = take n v
+cameBy n v (a ∷ more) = take (length v - length (a .rest) + a .brought) v
+
+abbrev pub comesOut : Result → Bool
+comesOut (out a u) = true
+comesOut (short n u) = false
 
 -- the pieces of some messages, with `free` bytes in the free end of the buffer
 abbrev pub piecesOf : Dialect → ℕ → List Request → List (List ℕ)
@@ -165,6 +174,8 @@ pub record AsReader (g : Config) (e : End) (q : Call) (v : List ℕ) (x : Entry)
   pub answer : x .answer ≡ replyOf (x .stopped) g e (outcomeOf (x .broken)) q v .answer
   pub unread : x .unread ≡ replyOf (x .stopped) g e (outcomeOf (x .broken)) q v .unread
   pub asks : AllAtNeeds g (outcomeOf (x .broken)) q v (x .pieces) (x .asks)
+  -- it is not over before the plain reader can be: what had come is enough for it, unless a read came to a fault
+  pub settled : Brought (x .asks) → comesOut (plain (g .capacity) (program g (outcomeOf (x .broken)) q) (cameBy (length (x .held)) v (x .asks))) ≡ true
   pub pieces : Accepted (callPieces g q (length (x .held))) (x .pieces) (x .broken)
   pub composed : Composed q (length (x .held)) (x .composed)
   pub closes : x .closes ≡ closesFor (isQuit q) (g .setting .ended) (x .pieces)

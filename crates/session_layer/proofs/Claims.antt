@@ -1,6 +1,6 @@
 -- What is claimed of a system against every host is claimed of a layer around it, within a bound that keeps below the layer's limit.
 -- Assumes nothing.
-use Prim.Native.Nat.{ℕ, _+_, _-_, _≤_, _<_}
+use Prim.Native.Nat.{ℕ, _+_, _-_, _≤_, _<_, _^_}
 use mathlib.Core.List.{List, [], _∷_, _++_}
 use mathlib.Core.Option.{Option, none, some}
 use mathlib.Core.Path.{_≡_, refl, sym, _∙_}
@@ -13,17 +13,19 @@ use Rattle.protocol.specs.Messages.{Request, joined, pieces, bytesOfRequest}
 use Rattle.protocol.specs.Reader.{Config, unlessWritten, writes, configAfter, plainWrites}
 use Rattle.protocol.specs.Refusal.{refusal}
 use Rattle.protocol.proofs.Messages.{pieces-joined}
-use Rattle.session.specs.Demand3.{System, reader, Bound, below}
-use Rattle.session.specs.EveryHost.{EveryHost}
+use Rattle.session.specs.Demand3.{Opening, System, AllWide, reader, Bound, unbounded, below, Within}
+use Rattle.protocol.specs.Bytes.{Bytes}
+use Rattle.session.specs.EveryHost.{CodedHost, EveryHost}
 use Rattle.session.specs.Faithful.{piecesOf, unlessPieces, callPieces, Accepted, Faithful}
-use Rattle.session.specs.Host.{Show, Broken, Entry, atStart}
+use Rattle.session.specs.Host.{Show, Broken, World, Host, Entry, atStart, logOf}
 use Rattle.session.proofs.Logs.{log-ends}
-use Rattle.session_layer.specs.Layer.{Account, atOpening, Around, sizes, total}
-use Rattle.session_layer.proofs.Runs.{log-same}
+use Rattle.session_layer.specs.Layer.{Account, atOpening, Around, sizes, endsOf}
+use Rattle.session_layer.proofs.Refused.{log-unasked}
+use Rattle.session_layer.proofs.Runs.{total, Always, AtEnds, log-same, log-at}
 
 -- ---- a faithful log writes no more than the plain reader
 
-sizes-joined : (ps : List (List ℕ)) → sizes ps ≡ length (joined ps)
+pub sizes-joined : (ps : List (List ℕ)) → sizes ps ≡ length (joined ps)
 sizes-joined [] = refl
 sizes-joined (p ∷ ps) = rw (length-append p (joined ps), sizes-joined ps)
 
@@ -64,15 +66,35 @@ pub narrower : {X : Type 0} (W′ W : Bound) (S : System X) → ((m n : ℕ) →
 narrower W′ W S f every o x rx msg p least room wide h z lends qs v incoming b within =
     every o x rx msg p least room wide h z lends qs v incoming b (f _ _ within)
 
-module _ {Y X : Type 0} (limit : ℕ) (T : System Y) (S : System X) (R : Account → Show → Y → X → Type 0) (A : Around limit T S R)
-    (W : Bound) (keeps : (m n : ℕ) → W m n → below limit m n) where
-  pub carried : EveryHost W S → EveryHost W T
-  carried every o y rx msg p least room wide h z lends qs v incoming b within =
+module _ {Y X : Type 0} (limit : ℕ) (T : System Y) (S : System X) (R : Account → Show → Y → X → Type 0) (A : Around limit T S R) where
+  pub carried : (W : Bound) → ((m n : ℕ) → W m n → below limit m n) → EveryHost W S → EveryHost W T
+  carried W keeps every o y rx msg p least room wide h z lends qs v incoming b within =
       let x = every o (A .inner y) rx msg (A .place y p) least room wide h z (λ w. A .lends (h .spare w) (lends w)) qs v incoming b within in
       let g : Config = reader o (length rx) (h .close) in
       let k : below limit (length incoming) (length (plainWrites g qs)) = keeps _ _ within in (
         A .number y p o rx msg ∙ x .0,
         rw (log-same limit (T .engine) (S .engine) (T .lends) R (A .layer) h lends qs (atOpening incoming) (atStart incoming) done _ _ rx msg refl
             (A .opens y p o rx msg incoming (x .0) (k .0))
-            (log-ends (h .end) g qs incoming _ (x .1), omega (arith, log-below (h .end) g qs incoming _ (x .1)))) (x .1),
+            (log-ends (h .end) g qs incoming _ (x .1), (omega (arith, log-below (h .end) g qs incoming _ (x .1)), log-unasked (h .end) g qs incoming _ (x .1)))) (x .1),
       )
+
+  -- .. and what stands in the layer when each call is over; P is what is known of a session inside from which every list of calls is the plain reader's
+  pub carried-at : EveryHost unbounded S → (P : X → List ℕ → Type 0) → (o : Opening) (y : Y) (rx msg : List ℕ) → T .place y → 8 ≤ length rx → length rx ≤ length msg → length msg < 2 ^ 63
+      → (h : Host) → CodedHost h → ((w : World) → T .lends (h .spare w))
+      → ((g : Config) (v : List ℕ) (w : World) (x : X) (rx msg : List ℕ) → Always (S .engine) h g v w x rx msg → P x rx)
+      → (qs : List Call) → AllWide qs → (incoming : List ℕ) → Bytes incoming
+      → Within (below limit) (reader o (length rx) (h .close)) qs incoming
+      → AtEnds (S .engine) R P (atOpening incoming) (logOf (T .engine) h qs (atStart incoming) (T .opened y o rx msg .x) rx msg)
+      (endsOf (T .engine) h qs (atStart incoming) (T .opened y o rx msg .x) rx msg)
+  carried-at every P o y rx msg p least room wide h z lends stands qs v incoming b k =
+      let g : Config = reader o (length rx) (h .close) in
+      let all : (qs : List Call) → AllWide qs → (S .opened (A .inner y) o rx msg .number ≡ 0) × Faithful g (h .end) qs incoming (logOf (S .engine) h qs (atStart incoming) (S .opened (A .inner y) o rx msg .x) rx msg) =
+      λ qs′ v′. every o (A .inner y) rx msg (A .place y p) least room wide h z (λ w. A .lends (h .spare w) (lends w)) qs′ v′ incoming b tt in
+      let x = all qs v in
+      let t : 0 + total (logOf (S .engine) h qs (atStart incoming) (S .opened (A .inner y) o rx msg .x) rx msg) < limit = omega (arith, log-below (h .end) g qs incoming _ (x .1)) in
+      let n = log-ends (h .end) g qs incoming _ (x .1) in
+      let u = log-unasked (h .end) g qs incoming _ (x .1) in
+      rw (log-same limit (T .engine) (S .engine) (T .lends) R (A .layer) h lends qs (atOpening incoming) (atStart incoming) done _ _ rx msg refl
+      (A .opens y p o rx msg incoming (x .0) (k .0)) (n, (t, u)))
+      (log-at limit (T .engine) (S .engine) (T .lends) R (A .layer) h lends P stands qs v g incoming (atOpening incoming) (atStart incoming) done _ _ rx msg refl
+      (A .opens y p o rx msg incoming (x .0) (k .0)) (λ qs′ v′. all qs′ v′ .1) (n, (t, u)))

@@ -1,5 +1,5 @@
 -- What the exported functions of the index come to: the right-hand sides of their contracts. Slots that hold no index beside an area of this
--- length, and a slice under 112 bytes for a reply, are answered 3, nothing altered.
+-- length, and a slice under 120 bytes for a reply, are answered 3, nothing altered.
 -- Assumes nothing.
 use Prim.Native.Nat.{ℕ, zero, suc, _+_, _-_}
 use mathlib.Core.Bool.{Bool, _&&_}

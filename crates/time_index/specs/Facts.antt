@@ -237,18 +237,18 @@ told =
     ∷ row (latestOf three (upTo three (pos 2))) (0 ∷ 0 ∷ [])
     ∷ []
 
--- ---- adding, as it crosses: a reply of 14 numbers, its name a part of the receive buffer
+-- ---- adding, as it crosses: a reply of 15 numbers, its name a part of the receive buffer
 
 abbrev rx : List ℕ
 rx = ascii "xT98y"
 
 -- v1: kind, start, length, mode, size, mtime
 abbrev reply : (kind start length mtime : ℕ) → List ℕ
-reply k at len t = word k ++ word at ++ word len ++ word 1 ++ word 2 ++ word t ++ replicate 64 0
+reply k at len t = word k ++ word at ++ word len ++ word 1 ++ word 2 ++ word t ++ replicate 72 0
 
--- v2: kind, start, length, error, dev, ino, mode, nlink, uid, gid, size, atime, mtime, ctime
+-- v2: kind, start, length, error, dev, ino, mode, nlink, uid, gid, size, atime, mtime, ctime, reads
 abbrev reply2 : (mtime : List ℕ) → List ℕ
-reply2 t = word 5 ++ word 1 ++ word 3 ++ word 2 ++ replicate 56 0 ++ word 111 ++ t ++ word 122
+reply2 t = word 5 ++ word 1 ++ word 3 ++ word 2 ++ replicate 56 0 ++ word 111 ++ t ++ word 122 ++ word 9
 
 abbrev nine : List ℕ
 nine = replicate 9 46
@@ -302,23 +302,23 @@ keeping =
     ∷ row (keeps (reply2 (254 ∷ replicate 7 255))) (negsuc 1)
     ∷ []
 
--- 19; another area: 3, ahead of 19; a reply of 111 bytes
+-- 19; another area: 3, ahead of 19; a reply of 119 bytes
 abbrev pub crossing : List (Fact (List ℕ × ℕ))
 crossing =
     row (seen (crossIndexAdd (whole 1 7) nine 0 (reply 4 1 3 5) rx)) (nine, 19)
     ∷ row (seen (crossIndexAdd (whole 1 7) (replicate 8 46) 0 (reply 4 1 3 5) rx)) (replicate 8 46, 3)
-    ∷ row (seen (crossIndexAdd (whole 1 7) nine 0 (take 111 (reply 4 1 3 5)) rx)) (nine, 3)
+    ∷ row (seen (crossIndexAdd (whole 1 7) nine 0 (take 119 (reply 4 1 3 5)) rx)) (nine, 3)
     ∷ []
 
 -- ---- an entry by its rank
 
 abbrev pub out : List ℕ
-out = replicate 112 46
+out = replicate 120 46
 
 -- no entry has that rank; a name that is none of those in the area
 abbrev pub seeking : List (Fact (List ℕ × ℕ))
 seeking =
-    row (entryIn three 2 out) (word 1 ++ word 3 ++ word 1 ++ word 2 ++ word 5 ++ replicate 72 46, 0)
-    ∷ row (entryIn three 3 out) (replicate 40 0 ++ replicate 72 46, 0)
+    row (entryIn three 2 out) (word 1 ++ word 3 ++ word 1 ++ word 2 ++ word 5 ++ replicate 80 46, 0)
+    ∷ row (entryIn three 3 out) (replicate 40 0 ++ replicate 80 46, 0)
     ∷ row (entryIn (head 3 3 ++ slotB ++ slotA ++ slotC) 2 out) (out, 3)
     ∷ []

@@ -30,7 +30,7 @@ pub enum Offered {
     Unknown,
 }
 
-// What a reply offers; a slice under 112 bytes is no reply. The time of an entry of v1 has 32 bits and no sign.
+// What a reply offers; a slice under 120 bytes is no reply. The time of an entry of v1 has 32 bits and no sign.
 pub fn offered_by(told: u32, reply: &[u8], rx: &[u8]) -> Offered
     ensures { λ r. ⌜ (offer (now (rx .entry)) r ≡ offeredIn told (now (reply .entry)) (now (rx .entry))) × Inside (now (rx .entry)) r ⌝ }
 {

@@ -11,7 +11,9 @@ use borrow.Author.Tests.{lt-ltb, ltb-true, leb-false, eq-eqb, eqb-true}
 use lib.Dec.{eqb, leb, ltb}
 use lib.ListN.{length, take, drop}
 use Rattle.protocol.specs.Answers.{Answer, refused, missing}
-use Rattle.protocol.specs.Bytes.{pick}
+use Rattle.protocol.specs.Bytes.{pick, put}
+use Rattle.protocol.proofs.Bytes.{put-length}
+use Rattle.protocol.specs.Records.{u64At}
 use Rattle.protocol.specs.Refusal.{orElse, refuse}
 use Rattle.protocol.proofs.Bodies.{pick-cases}
 use Rattle.record.specs.Record.{words, wordOf, size}
@@ -20,7 +22,7 @@ use Rattle.session.specs.Host.{Show, told, read, writeRx, writeLent, writeBytes
 use Rattle.session_layer.specs.Layer.{asked, Writes}
 use Rattle.boundary.specs.Crossing.{Crossed, crossed, OpenCrossed, crossOpen}
 use Rattle.boundary.specs.Heard.{answerHeard, heard}
-use Rattle.boundary.specs.Told.{replyNumber}
+use Rattle.boundary.specs.Told.{replyNumber, replyBytes, outSize}
 use Rattle.boundary.proofs.Reports.{NarrowRefusal, lets, by-number, by-feature}
 use Rattle.boundary_misuse.specs.Claim.{heardOf, Answers, seenAfter, follow}
 use Rattle.boundary_misuse.specs.Misuse.{Act, start, report, hasRead, wrote, fault, Event, Wide, AllWide, acted, Seen, opened, misfits, otherLent, awaited, outside, refusedAt, refusal}
@@ -28,9 +30,10 @@ use Rattle.boundary_misuse.proofs.Known.{Knows, knows}
 use Rattle.boundary_misuse.proofs.Misuse.{IsSome, known-step, opened-known}
 use Rattle.boundary_misuse.proofs.Table.{table-narrow}
 use Rattle.totals.specs.Card.{totalActed, totalBy, Sums, noSums, adds, sumsAfter, Shows, passes, refusedBy, AnswersBy, EveryMoment, CardClaim}
-use Rattle.totals.specs.Crossing.{recordSize, limit, overflowed, receivedOf, consumedOf, writtenOf, askedOf, refuses, pieceAsked, totalling, withTotals, overflowing, totalled, totalOpen, totalStart, totalRead, totalWrote, totalFault}
+use Rattle.totals.specs.Crossing.{recordSize, limit, overflowed, receivedOf, consumedOf, writtenOf, askedOf, readsOf, countAt, counted, overflowReply, refuses, pieceAsked, totalling, withTotals, overflowing, totalled, totalOpen, totalStart, totalRead, totalWrote, totalFault}
 use Rattle.totals.proofs.Asks.{acted-small}
-use Rattle.totals.proofs.Behind.{heldOf, totalling-is, in-front, whole-size, whole-inner, whole-own, whole-received, whole-consumed, whole-written, whole-asked}
+use Rattle.totals.proofs.Behind.{heldOf, totalling-is, in-front, whole-size, whole-inner, whole-own, whole-received, whole-consumed, whole-written, whole-asked, whole-reads}
+use Rattle.totals.proofs.Beside.{heard-counted, counted-at, out-kept}
 use Rattle.totals.proofs.Consumed.{gain, held-event, held-counted, known-order, event-number, open-held}
 use Rattle.totals.proofs.Layer.{asks-same, fitting}
 use Rattle.totals.proofs.Sizes.{acted-sized}
@@ -73,10 +76,11 @@ known-size (knows s sh own asked) = stored-length s
 record Holds (s : Seen) (t : Sums) (rec : List ℕ) : Type 0 where
   x : List ℕ
   a : ℕ
-  is : rec ≡ x ++ words (t .received ∷ (t .received - heldOf x) ∷ t .written ∷ a ∷ [])
+  is : rec ≡ x ++ words (t .received ∷ (t .received - heldOf x) ∷ t .written ∷ a ∷ t .reads ∷ [])
   sized : length x ≡ size
   received : t .received < limit
   written : t .written < limit
+  reads : t .reads < limit
   recalls : Writes (s .last) → a ≡ asked (s .last)
   asking : asked (s .last) < limit
   knows : Knows s x
@@ -87,34 +91,38 @@ module _ (s : Seen) (t : Sums) (rec : List ℕ) (h : Holds s t rec) where
   d = t .received - heldOf (h .x)
 
   rec-size : length rec ≡ recordSize
-  rec-size = ap length (h .is) ∙ whole-size (h .x) (h .sized) (t .received) d (t .written) (h .a)
+  rec-size = ap length (h .is) ∙ whole-size (h .x) (h .sized) (t .received) d (t .written) (h .a) (t .reads)
 
   rec-inner : take size rec ≡ h .x
-  rec-inner = ap (take size) (h .is) ∙ whole-inner (h .x) (h .sized) (t .received) d (t .written) (h .a)
+  rec-inner = ap (take size) (h .is) ∙ whole-inner (h .x) (h .sized) (t .received) d (t .written) (h .a) (t .reads)
 
   rec-own : h .x ++ drop size rec ≡ rec
-  rec-own = ap (λ (y : List ℕ). h .x ++ drop size y) (h .is) ∙ ap (λ (y : List ℕ). h .x ++ y) (whole-own (h .x) (h .sized) (t .received) d (t .written) (h .a)) ∙ sym (h .is)
+  rec-own = ap (λ (y : List ℕ). h .x ++ drop size y) (h .is) ∙ ap (λ (y : List ℕ). h .x ++ y) (whole-own (h .x) (h .sized) (t .received) d (t .written) (h .a) (t .reads)) ∙ sym (h .is)
 
   rec-received : receivedOf rec ≡ t .received
-  rec-received = ap receivedOf (h .is) ∙ whole-received (h .x) (h .sized) (t .received) d (t .written) (h .a) (h .received)
+  rec-received = ap receivedOf (h .is) ∙ whole-received (h .x) (h .sized) (t .received) d (t .written) (h .a) (t .reads) (h .received)
 
   rec-written : writtenOf rec ≡ t .written
-  rec-written = ap writtenOf (h .is) ∙ whole-written (h .x) (h .sized) (t .received) d (t .written) (h .a) (h .written)
+  rec-written = ap writtenOf (h .is) ∙ whole-written (h .x) (h .sized) (t .received) d (t .written) (h .a) (t .reads) (h .written)
+
+  rec-reads : readsOf rec ≡ t .reads
+  rec-reads = ap readsOf (h .is) ∙ whole-reads (h .x) (h .sized) (t .received) d (t .written) (h .a) (t .reads) (h .reads)
 
   rec-asked : Writes (s .last) → askedOf rec ≡ asked (s .last)
   rec-asked w =
       let e : h .a ≡ asked (s .last) = h .recalls w in
-      ap askedOf (h .is) ∙ whole-asked (h .x) (h .sized) (t .received) d (t .written) (h .a) (omega (arith, h .asking)) ∙ e
+      ap askedOf (h .is) ∙ whole-asked (h .x) (h .sized) (t .received) d (t .written) (h .a) (t .reads) (omega (arith, h .asking)) ∙ e
 
   rec-word : (i : ℕ) → i < 32 → wordOf rec i ≡ wordOf (h .x) i
-  rec-word i l = ap (λ (y : List ℕ). wordOf y i) (h .is) ∙ in-front (h .x) (words (t .received ∷ d ∷ t .written ∷ h .a ∷ [])) (h .sized) i l
+  rec-word i l = ap (λ (y : List ℕ). wordOf y i) (h .is) ∙ in-front (h .x) (words (t .received ∷ d ∷ t .written ∷ h .a ∷ t .reads ∷ [])) (h .sized) i l
 
   shows : Shows (s .capacity) t rec
   shows =
-      let c : consumedOf rec ≡ d = ap consumedOf (h .is) ∙ whole-consumed (h .x) (h .sized) (t .received) d (t .written) (h .a) (omega (arith, h .received)) in
+      let c : consumedOf rec ≡ d = ap consumedOf (h .is) ∙ whole-consumed (h .x) (h .sized) (t .received) d (t .written) (h .a) (t .reads) (omega (arith, h .received)) in
       record {
         received = rec-received;
         written = rec-written;
+        reads = rec-reads;
         consumed = λ rx l. rw (rec-word 2 (omega arith), rec-word 3 (omega arith)) (omega (arith, rec-received, c, h .held, held-counted s (h .x) rx (h .knows) l));
       }
 
@@ -137,32 +145,37 @@ module _ (s : Seen) (t : Sums) (rec : List ℕ) (h : Holds s t rec) where
     to (report wrote) = t .written + askedOf rec
     to (report (fault kind code)) = t .written
 
+    abbrev reads : Act → ℕ
+    reads a = adds s t a .reads
+
     abbrev made : Act → Crossed
-    made a = totalled rec (e .rx) (e .msg) (e .out) (from a) (to a) (acted (h .x) e a)
+    made a = totalled rec (e .rx) (e .msg) (e .out) (from a) (to a) (reads a) (acted (h .x) e a)
 
     -- a call and a fault add nothing, and so never pass the limit
-    still-within : (y : Crossed) → withTotals rec (t .received) (t .written) y ≡ totalled rec (e .rx) (e .msg) (e .out) (t .received) (t .written) y
-    still-within y = sym (fitting (not (refuses (y .number))) (t .received) (t .written) _ _ (h .received) (h .written))
+    still-within : (k : ℕ) → k < limit → (y : Crossed) → withTotals rec (t .received) (t .written) k y ≡ totalled rec (e .rx) (e .msg) (e .out) (t .received) (t .written) k y
+    still-within k l y = sym (fitting (not (refuses (y .number))) (t .received) (t .written) k _ _ (h .received) (h .written) l)
 
     made-is : (a : Act) → totalActed rec e a ≡ made a
     unfolding totalStart totalRead totalWrote totalFault
-    made-is (start n a b) = rw (eq-eqb (length rec) recordSize rec-size, rec-inner, rec-received, rec-written) (still-within (acted (h .x) e (start n a b)))
-    made-is (report (hasRead k)) = rw (eq-eqb (length rec) recordSize rec-size, rec-inner, rec-received, rec-written)
-    made-is (report wrote) = rw (eq-eqb (length rec) recordSize rec-size, rec-inner, rec-received, rec-written)
-    made-is (report (fault kind code)) = rw (eq-eqb (length rec) recordSize rec-size, rec-inner, rec-received, rec-written) (still-within (acted (h .x) e (report (fault kind code))))
+    made-is (start n a b) = rw (eq-eqb (length rec) recordSize rec-size, rec-inner, rec-received, rec-written) (still-within 0 (omega arith) (acted (h .x) e (start n a b)))
+    made-is (report (hasRead k)) = rw (eq-eqb (length rec) recordSize rec-size, rec-inner, rec-received, rec-written, rec-reads)
+    made-is (report wrote) = rw (eq-eqb (length rec) recordSize rec-size, rec-inner, rec-received, rec-written, rec-reads)
+    made-is (report (fault kind code)) = rw (eq-eqb (length rec) recordSize rec-size, rec-inner, rec-received, rec-written, rec-reads) (still-within (t .reads) (h .reads) (acted (h .x) e (report (fault kind code))))
 
     -- what is claimed of it, and that the record holds what is seen and added up afterwards
     abbrev Result : Option Answer → Crossed → Type 0
-    Result r y = AnswersBy r rec e y × Holds (follow r s e (heardOf y)) (sumsAfter r t t′) (y .rec)
+    Result r y = AnswersBy r (t′ .reads) rec e y × Holds (follow r s e (heardOf y)) (sumsAfter r t t′) (y .rec)
 
     -- refused inside
-    refused-is : refuses (c .number) ≡ true → made (e .act) ≡ crossed (c .rec ++ drop size rec) (c .rx) (c .msg) (c .out) (c .number)
+    refused-is : refuses (c .number) ≡ true → made (e .act) ≡ crossed (c .rec ++ drop size rec) (c .rx) (c .msg) (counted (c .number) 0 (c .out)) (c .number)
     refused-is f = rw f
 
     refused-result : (a : Answer) → refuses (c .number) ≡ true → Answers (some a) (h .x) e c → Result (some a) (made (e .act))
     refused-result a f (n, heard, (r, x, m)) =
         let i : c .rec ++ drop size rec ≡ rec = ap (λ (z : List ℕ). z ++ drop size rec) r ∙ rec-own in
-        subst (Result (some a)) (sym (refused-is f)) ((n, heard, (i, x, m)), subst (Holds s t) (sym i) h)
+        let at : outSize ≤ length (e .out) → u64At countAt (counted (c .number) 0 (c .out)) ≡ 0 =
+        λ l. counted-at (c .number) 0 (c .out) (omega arith) (acted-sized (h .x) (h .sized) e (e .act) .tells f) (omega (arith, out-kept (h .x) e (e .act))) in
+        subst (Result (some a)) (sym (refused-is f)) (((n, heard-counted (c .number) 0 (c .out) (c .rx) (c .msg) ∙ heard, (i, x, m)), at), subst (Holds s t) (sym i) h)
 
     -- let in
     gains : (a : Act) → from a ≡ t .received + gain a
@@ -194,7 +207,9 @@ module _ (s : Seen) (t : Sums) (rec : List ℕ) (h : Holds s t rec) where
       to-is (report (fault kind code)) f = refl
 
       abbrev by : Bool → Crossed
-      by p = pick p (overflowing rec (e .rx) (e .msg) (e .out)) (crossed (totalling (c .rec) (t′ .received) (t′ .written) (pieceAsked (heardOf c) (askedOf rec))) (c .rx) (c .msg) (c .out) (c .number))
+      by p =
+          pick p (overflowing rec (e .rx) (e .msg) (e .out))
+          (crossed (totalling (c .rec) (t′ .received) (t′ .written) (pieceAsked (heardOf c) (askedOf rec)) (t′ .reads)) (c .rx) (c .msg) (counted (c .number) (t′ .reads) (c .out)) (c .number))
 
       in-is : made (e .act) ≡ by (passes t′)
       in-is = rw (in-number, to-is (e .act) refl)
@@ -202,23 +217,29 @@ module _ (s : Seen) (t : Sums) (rec : List ℕ) (h : Holds s t rec) where
       -- 21
       over-result : Result (some (refused overflowed)) (by true)
       unfolding heard answerHeard replyNumber
-      over-result = ((refl, refl, (refl, refl, refl)), h)
+      over-result =
+          let o : List ℕ = put (e .out) 0 (replyBytes overflowReply) in
+          let at : outSize ≤ length (e .out) → u64At countAt (counted 5376 0 o) ≡ 0 = λ l. counted-at 5376 0 o (omega arith) refl (omega (arith, put-length (e .out) 0 (replyBytes overflowReply))) in
+          (((refl, heard-counted 5376 0 o (e .rx) (e .msg), (refl, refl, refl)), at), h)
 
       in-held : heldOf (c .rec) ≤ t′ .received
       in-held = omega (arith, held-event s (h .x) e (h .knows) w z, h .held, gains (e .act))
 
       -- the totals are those added up
-      in-result : t′ .received < limit → t′ .written < limit → Result none (by false)
-      in-result p q =
-          let l : seenAfter s e (e .act) (heardOf c) .last ≡ heardOf c = last-is s e (e .act) (heardOf c) in (
-            event-number s (h .x) e (h .knows) w z,
+      in-result : t′ .received < limit → t′ .written < limit → t′ .reads < limit → Result none (by false)
+      in-result p q j =
+          let l : seenAfter s e (e .act) (heardOf c) .last ≡ heardOf c = last-is s e (e .act) (heardOf c) in
+          subst (λ (sh : Show). AnswersBy none (t′ .reads) rec e (by false) × Holds (seenAfter s e (e .act) sh) t′ (by false .rec))
+          (sym (heard-counted (c .number) (t′ .reads) (c .out) (c .rx) (c .msg))) (
+            (event-number s (h .x) e (h .knows) w z, λ y f. counted-at (c .number) (t′ .reads) (c .out) j f (omega (arith, out-kept (h .x) e (e .act)))),
             record {
               x = c .rec;
               a = pieceAsked (heardOf c) (askedOf rec);
-              is = totalling-is (c .rec) (t′ .received) (t′ .written) (pieceAsked (heardOf c) (askedOf rec)) (known-order g) in-held;
+              is = totalling-is (c .rec) (t′ .received) (t′ .written) (pieceAsked (heardOf c) (askedOf rec)) (t′ .reads) (known-order g) in-held;
               sized = acted-sized (h .x) (h .sized) e (e .act) .size-same;
               received = p;
               written = q;
+              reads = j;
               recalls = rw l (asks-same (heardOf c) (askedOf rec));
               asking = rw l (acted-small (h .x) e (w .out) (e .act));
               knows = g;
@@ -229,8 +250,9 @@ module _ (s : Seen) (t : Sums) (rec : List ℕ) (h : Holds s t rec) where
       let-in-result : (p : Bool) → passes t′ ≡ p → Result (refuse p (refused overflowed)) (by p)
       let-in-result true f = over-result
       let-in-result false f =
-          let (a, b) = or-false (leb limit (t′ .received)) (leb limit (t′ .written)) f in
-          in-result (leb-false limit (t′ .received) a) (leb-false limit (t′ .written) b)
+          let (a, b) = or-false (leb limit (t′ .received)) (leb limit (t′ .written) || leb limit (t′ .reads)) f in
+          let (b₁, b₂) = or-false (leb limit (t′ .written)) (leb limit (t′ .reads)) b in
+          in-result (leb-false limit (t′ .received) a) (leb-false limit (t′ .written) b₁) (leb-false limit (t′ .reads) b₂)
 
     -- by what the table says
     tabled : (r : Option Answer) → NarrowRefusal r → refusal s e ≡ r → Answers r (h .x) e c → Knows (follow r s e (heardOf c)) (c .rec)
@@ -263,7 +285,7 @@ module _ (rec settings banner : List ℕ) (c m : ℕ) (wide : m < 2 ^ 63) where
   unfolding totalOpen
   number-is = pick-cases (λ (y : OpenCrossed). y .number ≡ 0 → o .number ≡ 0) (eqb (o .number) 0) (λ e _. eqb-true (o .number) 0 e) (λ _ z. z)
 
-  rec-is : o .number ≡ 0 → totalOpen rec settings banner c m .rec ≡ totalling (o .rec) 0 0 0
+  rec-is : o .number ≡ 0 → totalOpen rec settings banner c m .rec ≡ totalling (o .rec) 0 0 0 0
   unfolding totalOpen
   rec-is z = rw (eq-eqb (o .number) 0 z)
 
@@ -272,10 +294,11 @@ module _ (rec settings banner : List ℕ) (c m : ℕ) (wide : m < 2 ^ 63) where
       record {
         x = o .rec;
         a = 0;
-        is = rec-is z ∙ totalling-is (o .rec) 0 0 0 (known-order (opened-known inside settings banner c m wide z)) held-none;
+        is = rec-is z ∙ totalling-is (o .rec) 0 0 0 0 (known-order (opened-known inside settings banner c m wide z)) held-none;
         sized = known-size (opened-known inside settings banner c m wide z);
         received = omega arith;
         written = omega arith;
+        reads = omega arith;
         recalls = λ w. absurd w;
         asking = omega arith;
         knows = opened-known inside settings banner c m wide z;

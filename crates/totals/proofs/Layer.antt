@@ -17,35 +17,23 @@ use Rattle.id_table.specs.Settings.{settingsOf}
 use Rattle.record.specs.Record.{words, wordOf, size}
 use Rattle.session.specs.Demand3.{Opening, unbounded, below, Claim}
 use Rattle.session.specs.EveryHost.{EveryHost}
-use Rattle.session.specs.Host.{Show, told, read, writeRx, writeLent, writeBytes, close, lentOf}
+use Rattle.session.specs.Host.{Show, told, read, writeRx, writeLent, writeBytes, close, Step, lentOf}
 use Rattle.session.proofs.Demand3.{claimed}
-use Rattle.session_layer.specs.Layer.{asked, Writes, Account, reading, writing, Alike, Layer, Around, atOpening}
+use Rattle.session_layer.specs.Layer.{asked, Writes, tellsRefusal, Account, starting, reading, writing, Alike, Layer, Around, atOpening}
 use Rattle.session_layer.proofs.Claims.{narrower, carried}
 use Rattle.boundary.specs.Boundary.{callNumber, firstNumber, flagNumber, endKind, endCode, stepOf, recorded, boundary}
 use Rattle.boundary.specs.Crossing.{Crossed, OpenCrossed, crossOpen}
 use Rattle.boundary.specs.Heard.{heard}
 use Rattle.boundary.proofs.Demand3.{every-host}
 use Rattle.boundary_misuse.specs.Misuse.{Act, start, report, hasRead, wrote, fault, Event, acted}
-use Rattle.totals.specs.Crossing.{recordSize, receivedOf, writtenOf, askedOf, limit, refuses, pieceAsked, totalling, withTotals, overflowing, totalled, onRecord, openTotals, totalOpen, totalStart, totalRead, totalWrote, totalFault}
+use Rattle.totals.specs.Crossing.{recordSize, receivedOf, consumedOf, writtenOf, askedOf, readsOf, limit, refuses, pieceAsked, totalling, withTotals, overflowing, totalled, onRecord, openTotals, totalOpen, totalStart, totalRead, totalWrote, totalFault}
 use Rattle.totals.specs.System.{counting, totals}
-use Rattle.totals.proofs.Behind.{whole-size, whole-inner, whole-own, whole-received, whole-written, whole-asked, in-front}
+use Rattle.totals.proofs.Behind.{heldOf, totalling-is, whole-size, whole-inner, whole-own, whole-received, whole-consumed, whole-written, whole-asked, whole-reads, in-front}
+use Rattle.totals.proofs.Beside.{heard-counted}
+use Rattle.totals.proofs.Refused.{heard-refused}
 use Rattle.totals.proofs.Sizes.{Sized, acted-sized, open-size}
 
 -- ---- the relation
-
--- the totals are at most the account's: where a report is refused, the account goes on and they stay
-record Keeps (l : Account) (sh : Show) (y x : List ℕ) : Type 0 where
-  r : ℕ
-  d : ℕ
-  n : ℕ
-  a : ℕ
-  is : y ≡ x ++ words (r ∷ d ∷ n ∷ a ∷ [])
-  sized : length x ≡ size
-  received : r ≤ l .received
-  to-come : l .received + length (l .left) < limit
-  written : n ≤ l .written
-  below : l .written < limit
-  recalls : Writes sh → a ≡ asked sh
 
 -- what is asked is what is kept of it
 pub asks-same : (sh : Show) (n : ℕ) → Writes sh → pieceAsked sh n ≡ asked sh
@@ -61,83 +49,134 @@ told-refused : (n : ℕ) (out rx msg : List ℕ) → n % 256 ≡ 0 → Writes (h
 unfolding heard
 told-refused n out rx msg e = rw (eq-eqb (n % 256) 0 e) (λ w. w)
 
--- both totals are below the limit
-pub fitting : (b : Bool) (r n : ℕ) (o s : Crossed) → r < limit → n < limit → pick (b && (leb limit r || leb limit n)) o s ≡ s
-fitting true r n o s p q = rw (lt-leb limit r p, lt-leb limit n q)
-fitting false r n o s p q = refl
+-- the totals and the reads are below the limit
+pub fitting : (b : Bool) (r n k : ℕ) (o s : Crossed) → r < limit → n < limit → k < limit → pick (b && (leb limit r || (leb limit n || leb limit k))) o s ≡ s
+fitting true r n k o s p q z = rw (lt-leb limit r p, lt-leb limit n q, lt-leb limit k z)
+fitting false r n k o s p q z = refl
+
+-- the record is the session's bytes, and behind them what the account has
+pub record Keeps (l : Account) (sh : Show) (y x : List ℕ) : Type 0 where
+  pub a : ℕ
+  pub is : y ≡ totalling x (l .received) (l .written) a (l .reads)
+  pub sized : length x ≡ size
+  pub all : l .received + length (l .left) ≡ l .coming
+  pub few : l .coming < limit
+  pub below : l .written < limit
+  -- no more reads than bytes
+  pub reads : l .reads ≤ l .received
+  pub recalls : Writes sh → a ≡ asked sh
 
 -- ---- a step
 
 module _ (l : Account) (sh : Show) (y x : List ℕ) (k : Keeps l sh y x) where
+  abbrev d : ℕ
+  d = limit + l .received + wordOf x 2 - wordOf x 3
+
   here-size : length y ≡ recordSize
-  here-size = ap length (k .is) ∙ whole-size x (k .sized) (k .r) (k .d) (k .n) (k .a)
+  here-size = ap length (k .is) ∙ whole-size x (k .sized) (l .received) d (l .written) (k .a) (l .reads)
 
   here-inner : take size y ≡ x
-  here-inner = ap (take size) (k .is) ∙ whole-inner x (k .sized) (k .r) (k .d) (k .n) (k .a)
+  here-inner = ap (take size) (k .is) ∙ whole-inner x (k .sized) (l .received) d (l .written) (k .a) (l .reads)
 
-  here-own : drop size y ≡ words (k .r ∷ k .d ∷ k .n ∷ k .a ∷ [])
-  here-own = ap (drop size) (k .is) ∙ whole-own x (k .sized) (k .r) (k .d) (k .n) (k .a)
+  here-own : x ++ drop size y ≡ y
+  here-own =
+      ap (λ (z : List ℕ). x ++ drop size z) (k .is) ∙ ap (λ (z : List ℕ). x ++ z) (whole-own x (k .sized) (l .received) d (l .written) (k .a) (l .reads)) ∙ sym (k .is)
 
-  here-received : receivedOf y ≡ k .r
-  here-received = ap receivedOf (k .is) ∙ whole-received x (k .sized) (k .r) (k .d) (k .n) (k .a) (omega (arith, k .received, k .to-come))
+  pub here-received : receivedOf y ≡ l .received
+  here-received = ap receivedOf (k .is) ∙ whole-received x (k .sized) (l .received) d (l .written) (k .a) (l .reads) (omega (arith, k .all, k .few))
 
-  here-written : writtenOf y ≡ k .n
-  here-written = ap writtenOf (k .is) ∙ whole-written x (k .sized) (k .r) (k .d) (k .n) (k .a) (omega (arith, k .written, k .below))
+  pub here-written : writtenOf y ≡ l .written
+  here-written = ap writtenOf (k .is) ∙ whole-written x (k .sized) (l .received) d (l .written) (k .a) (l .reads) (k .below)
 
   here-asked : k .a < limit → askedOf y ≡ k .a
-  here-asked h = ap askedOf (k .is) ∙ whole-asked x (k .sized) (k .r) (k .d) (k .n) (k .a) h
+  here-asked h = ap askedOf (k .is) ∙ whole-asked x (k .sized) (l .received) d (l .written) (k .a) (l .reads) h
+
+  pub here-reads : readsOf y ≡ l .reads
+  here-reads = ap readsOf (k .is) ∙ whole-reads x (k .sized) (l .received) d (l .written) (k .a) (l .reads) (omega (arith, k .reads, k .all, k .few))
 
   here-word : (i : ℕ) → i < 32 → wordOf y i ≡ wordOf x i
-  here-word i h = ap (λ (z : List ℕ). wordOf z i) (k .is) ∙ in-front x (words (k .r ∷ k .d ∷ k .n ∷ k .a ∷ [])) (k .sized) i h
+  here-word i h = ap (λ (z : List ℕ). wordOf z i) (k .is) ∙ in-front x (words (l .received ∷ d ∷ l .written ∷ k .a ∷ l .reads ∷ [])) (k .sized) i h
 
-  -- c is the step inside, r′ and n′ the totals that are to stand behind it, l′ the account then
-  module _ (l′ : Account) (c : Crossed) (e : Sized c) (rx msg out : List ℕ) (r′ n′ : ℕ) (r-le : r′ ≤ l′ .received) (n-le : n′ ≤ l′ .written)
-      (more : l .received ≤ l′ .received) (more′ : l .written ≤ l′ .written) (to-come : l′ .received + length (l′ .left) < limit) (below : l′ .written < limit) where
+  -- what is held, and no more than was received, is not yet consumed
+  pub here-consumed : wordOf x 2 ≤ wordOf x 3 → heldOf x ≤ l .received → consumedOf y ≡ l .received - heldOf x
+  here-consumed h i =
+      ap consumedOf (k .is ∙ totalling-is x (l .received) (l .written) (k .a) (l .reads) h i)
+      ∙ whole-consumed x (k .sized) (l .received) (l .received - heldOf x) (l .written) (k .a) (l .reads) (omega (arith, k .all, k .few))
+
+  -- c is the step inside
+  module _ (c : Crossed) (e : Sized x c) (rx msg out : List ℕ) where
     abbrev says : Show
     says = heard (c .number) (c .out) (c .rx) (c .msg)
 
-    abbrev kept : Bool → List ℕ
-    kept b = pick b (c .rec ++ drop size y) (totalling (c .rec) r′ n′ (pieceAsked says (askedOf y)))
+    says-refused : tellsRefusal says ≡ refuses (c .number)
+    says-refused = heard-refused (c .number) (c .out) (c .rx) (c .msg) (e .tells)
 
-    keeps : (b : Bool) → refuses (c .number) ≡ b → Keeps l′ says (kept b) (c .rec)
-    keeps true f =
+    -- r′, n′ and i′ are to stand behind it, and so the account l′ has them, unless it is refused
+    module _ (l′ : Account) (r′ n′ i′ : ℕ) (all : l′ .received + length (l′ .left) ≡ l′ .coming) (few : l′ .coming < limit) (below : l′ .written < limit)
+        (reads : l′ .reads ≤ l′ .received) where
+      abbrev kept : Bool → List ℕ
+      kept b = pick b (c .rec ++ drop size y) (totalling (c .rec) r′ n′ (pieceAsked says (askedOf y)) i′)
+
+      abbrev shown : Show → Step (List ℕ)
+      shown sh = record { x = kept (refuses (c .number)); rx = c .rx; msg = c .msg; show = sh }
+
+      put-behind : refuses (c .number) ≡ false → r′ ≡ l′ .received → n′ ≡ l′ .written → i′ ≡ l′ .reads → Keeps l′ says (kept (refuses (c .number))) (c .rec)
+      put-behind f p q r =
+          record {
+            a = pieceAsked says (askedOf y);
+            is = rw (f, p, q, r);
+            sized = e .size-same;
+            all = all;
+            few = few;
+            below = below;
+            reads = reads;
+            recalls = asks-same says (askedOf y);
+          }
+
+      settled-alike : Keeps l′ says (kept (refuses (c .number))) (c .rec) → Alike Keeps l′ (stepOf (onRecord y rx msg out (withTotals y r′ n′ i′ c))) (stepOf c)
+      settled-alike keeps =
+          let on : onRecord y rx msg out (withTotals y r′ n′ i′ c) ≡ withTotals y r′ n′ i′ c = rw (eq-eqb (length y) recordSize here-size) in
+          let same : stepOf (withTotals y r′ n′ i′ c) ≡ shown says = ap shown (heard-counted (c .number) (pick (refuses (c .number)) 0 i′) (c .out) (c .rx) (c .msg)) in
+          (kept (refuses (c .number)), (ap stepOf on ∙ same, keeps))
+
+      -- a report that the session does not refuse
+      reported-alike : tellsRefusal says ≡ false → r′ ≡ l′ .received → n′ ≡ l′ .written → i′ ≡ l′ .reads
+          → Alike Keeps l′ (stepOf (onRecord y rx msg out (withTotals y r′ n′ i′ c))) (stepOf c)
+      reported-alike z p q r = settled-alike (put-behind (sym says-refused ∙ z) p q r)
+
+      totalled-alike : tellsRefusal says ≡ false → r′ ≡ l′ .received → n′ ≡ l′ .written → i′ ≡ l′ .reads
+          → Alike Keeps l′ (stepOf (onRecord y rx msg out (totalled y rx msg out r′ n′ i′ c))) (stepOf c)
+      totalled-alike z p q r =
+          rw (fitting (not (refuses (c .number))) r′ n′ i′ (overflowing y rx msg out) (withTotals y r′ n′ i′ c) (omega (arith, p, all, few)) (omega (arith, q)) (omega (arith, r, reads, all, few)))
+          (reported-alike z p q r)
+
+    -- a call: refused, all stays as it was; else it begins with no reads
+    start-keeps : (b : Bool) → refuses (c .number) ≡ b
+        → Keeps (starting says l) says (pick b (c .rec ++ drop size y) (totalling (c .rec) (l .received) (l .written) (pieceAsked says (askedOf y)) 0)) (c .rec)
+    start-keeps true f =
+        let z : tellsRefusal says ≡ true = says-refused ∙ f in
         record {
-          r = k .r;
-          d = k .d;
-          n = k .n;
           a = k .a;
-          is = ap (λ (z : List ℕ). c .rec ++ z) here-own;
+          is = rw (z, e .same f) (here-own ∙ k .is);
           sized = e .size-same;
-          received = omega (arith, k .received);
-          to-come = to-come;
-          written = omega (arith, k .written);
-          below = below;
+          all = k .all;
+          few = k .few;
+          below = k .below;
+          reads = rw z (k .reads);
           recalls = λ w. absurd (told-refused (c .number) (c .out) (c .rx) (c .msg) (e .tells f) w);
         }
-    keeps false f =
+    start-keeps false f =
+        let z : tellsRefusal says ≡ false = says-refused ∙ f in
         record {
-          r = r′;
-          d = limit + r′ + wordOf (c .rec) 2 - wordOf (c .rec) 3;
-          n = n′;
           a = pieceAsked says (askedOf y);
-          is = refl;
+          is = rw z refl;
           sized = e .size-same;
-          received = r-le;
-          to-come = to-come;
-          written = n-le;
-          below = below;
+          all = k .all;
+          few = k .few;
+          below = k .below;
+          reads = rw z (omega arith);
           recalls = asks-same says (askedOf y);
         }
-
-    settled-alike : Alike Keeps l′ (stepOf (onRecord y rx msg out (withTotals y r′ n′ c))) (stepOf c)
-    settled-alike = (
-      kept (refuses (c .number)),
-      (ap stepOf (rw (eq-eqb (length y) recordSize here-size)), keeps (refuses (c .number)) refl),
-    )
-
-    totalled-alike : Alike Keeps l′ (stepOf (onRecord y rx msg out (totalled y rx msg out r′ n′ c))) (stepOf c)
-    totalled-alike =
-        rw (fitting (not (refuses (c .number))) r′ n′ (overflowing y rx msg out) (withTotals y r′ n′ c) (omega arith) (omega arith)) settled-alike
 
 -- ---- the layer
 
@@ -145,33 +184,35 @@ module _ (l : Account) (sh : Show) (y x : List ℕ) (k : Keeps l sh y x) where
 abbrev made : (rx msg lent out : List ℕ) → Act → Event
 made rx msg lent out a = record { act = a; lent = lent; rx = rx; msg = msg; out = out }
 
-inside : (x rx msg lent out : List ℕ) → length x ≡ size → (a : Act) → Sized (acted x (made rx msg lent out a) a)
+inside : (x rx msg lent out : List ℕ) → length x ≡ size → (a : Act) → Sized x (acted x (made rx msg lent out a) a)
 inside x rx msg lent out l a = acted-sized x l (made rx msg lent out a) a
 
-totals-layer : Layer limit counting recorded (totals .lends) Keeps
+pub totals-layer : Layer limit counting recorded (totals .lends) Keeps
 unfolding totalStart totalRead totalWrote totalFault
 totals-layer =
     record {
       holds = λ l sh y x k rx. rw (here-word l sh y x k 2 (omega arith), here-word l sh y x k 3 (omega arith));
       tail = λ l sh y x k. here-word l sh y x k 3 (omega arith);
       start = λ l a y x k rx msg q z _.
+          let c : Crossed = acted x (made rx msg (lentOf z q) (z .out) (start (callNumber q) (firstNumber z q) (flagNumber z q))) (start (callNumber q) (firstNumber z q) (flagNumber z q)) in
+          let e = inside x rx msg (lentOf z q) (z .out) (k .sized) (start (callNumber q) (firstNumber z q) (flagNumber z q)) in
+          let s = start-keeps l (told a) y x k c e rx msg (z .out) (refuses (c .number)) refl in
           rw (here-inner l (told a) y x k, here-received l (told a) y x k, here-written l (told a) y x k)
-          (settled-alike l (told a) y x k l _ (inside x rx msg (lentOf z q) (z .out) (k .sized) (start (callNumber q) (firstNumber z q) (flagNumber z q))) rx msg (z .out) (k .r) (k .n) (k .received) (k .written)
-          (omega arith) (omega arith) (k .to-come) (k .below));
-      onRead = λ l at len y x k rx msg lent i z _ p q b.
-          rw (here-inner l (read at len) y x k, here-received l (read at len) y x k, here-written l (read at len) y x k)
-          (totalled-alike l (read at len) y x k (reading i l) _ (inside x rx msg lent (z .out) (k .sized) (report (hasRead i))) rx msg (z .out) (k .r + i) (k .n) (omega (arith, k .received)) (k .written)
-          (omega arith) (omega arith) (omega (arith, k .to-come, length-drop i (l .left))) (k .below));
-      onWrote = λ l sh y x k w f rx msg lent z _.
+          (settled-alike l (told a) y x k c e rx msg (z .out) (starting (stepOf c .show) l) (l .received) (l .written) 0 (s .all) (s .few) (s .below) (s .reads) s);
+      onRead = λ l at len y x k rx msg lent i z _ p q b n.
+          rw (here-inner l (read at len) y x k, here-received l (read at len) y x k, here-written l (read at len) y x k, here-reads l (read at len) y x k)
+          (totalled-alike l (read at len) y x k _ (inside x rx msg lent (z .out) (k .sized) (report (hasRead i))) rx msg (z .out) (reading i l) (l .received + i) (l .written) (l .reads + 1)
+          (omega (arith, k .all, length-drop i (l .left))) (k .few) (k .below) (omega (arith, k .reads)) n refl refl refl);
+      onWrote = λ l sh y x k w f rx msg lent z _ n.
           let a : k .a ≡ asked sh = k .recalls w in
           let b : askedOf y ≡ k .a = here-asked l sh y x k (omega arith) in
-          rw (here-inner l sh y x k, here-received l sh y x k, here-written l sh y x k)
-          (totalled-alike l sh y x k (writing (asked sh) l) _ (inside x rx msg lent (z .out) (k .sized) (report wrote)) rx msg (z .out) (k .r) (k .n + askedOf y) (k .received) (omega (arith, k .written))
-          (omega arith) (omega arith) (k .to-come) f);
-      onFault = λ l sh y x k rx msg lent e z _.
-          rw (here-inner l sh y x k, here-received l sh y x k, here-written l sh y x k)
-          (settled-alike l sh y x k l _ (inside x rx msg lent (z .out) (k .sized) (report (fault (endKind z e) (endCode z e)))) rx msg (z .out) (k .r) (k .n) (k .received) (k .written)
-          (omega arith) (omega arith) (k .to-come) (k .below));
+          rw (here-inner l sh y x k, here-received l sh y x k, here-written l sh y x k, here-reads l sh y x k)
+          (totalled-alike l sh y x k _ (inside x rx msg lent (z .out) (k .sized) (report wrote)) rx msg (z .out) (writing (asked sh) l) (l .received) (l .written + askedOf y) (l .reads)
+          (k .all) (k .few) f (k .reads) n refl (omega arith) refl);
+      onFault = λ l sh y x k w rx msg lent e z _ n.
+          rw (here-inner l sh y x k, here-received l sh y x k, here-written l sh y x k, here-reads l sh y x k)
+          (reported-alike l sh y x k _ (inside x rx msg lent (z .out) (k .sized) (report (fault (endKind z e) (endCode z e)))) rx msg (z .out) l (l .received) (l .written) (l .reads)
+          (k .all) (k .few) (k .below) (k .reads) n refl refl refl);
     }
 
 -- ---- opening
@@ -195,23 +236,20 @@ module _ (y : List ℕ) (p : length y ≡ recordSize) (t : Opening) (rx msg : Li
       ap (λ (z : OpenCrossed). z .number) opens-as
       ∙ pick-cases (λ (z : OpenCrossed). z .number ≡ o .number) (eqb (o .number) 0) (λ e. sym (eqb-true (o .number) 0 e)) (λ _. refl)
 
-  opened-keeps : (incoming : List ℕ) → o .number ≡ 0 → length incoming < limit → Keeps (atOpening incoming) (told done) (O .rec) (o .rec)
+  pub opened-keeps : (incoming : List ℕ) → o .number ≡ 0 → length incoming < limit → Keeps (atOpening incoming) (told done) (O .rec) (o .rec)
   opened-keeps incoming e b =
       record {
-        r = 0;
-        d = limit + 0 + wordOf (o .rec) 2 - wordOf (o .rec) 3;
-        n = 0;
         a = 0;
         is = ap (λ (z : OpenCrossed). z .rec) opens-as ∙ rw (eq-eqb (o .number) 0 e);
         sized = open-size (take size y) (settingsOf (t .table)) (t .banner) (length rx) (length msg) inner-size;
-        received = omega arith;
-        to-come = omega arith;
-        written = omega arith;
+        all = omega arith;
+        few = b;
         below = omega arith;
+        reads = omega arith;
         recalls = λ w. absurd w;
       }
 
-totals-around : Around limit totals boundary Keeps
+pub totals-around : Around limit totals boundary Keeps
 totals-around =
     record {
       layer = totals-layer;

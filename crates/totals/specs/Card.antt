@@ -1,6 +1,6 @@
 -- The card: what a host adds up of its own reports, that the record shows these sums, and what is refused: 21 behind the table of misuse.
 -- Assumes nothing.
-use Prim.Native.Nat.{ℕ, _+_, _*_, _≤_, _<_, _^_}
+use Prim.Native.Nat.{ℕ, _+_, _*_, _%_, _≤_, _<_, _^_}
 use mathlib.Core.Bool.{Bool, _||_}
 use mathlib.Core.List.{List, [], _∷_}
 use mathlib.Core.Option.{Option, none, some}
@@ -9,12 +9,14 @@ use lib.Dec.{leb}
 use lib.ListN.{length}
 use Rattle.protocol.specs.Answers.{Answer, refused}
 use Rattle.protocol.specs.Refusal.{orElse, refuse}
+use Rattle.protocol.specs.Records.{u64At}
 use Rattle.boundary.specs.Crossing.{Crossed}
+use Rattle.boundary.specs.Told.{outSize}
 use Rattle.boundary_misuse.specs.Claim.{heardOf, Answers, follow}
 use Rattle.boundary_misuse.specs.Misuse.{hasRead, wrote, fault, Act, start, report, Event, AllWide, Seen, opened, refusal}
 use Rattle.session_layer.specs.Layer.{asked}
 use Rattle.totals.specs.System.{counting}
-use Rattle.totals.specs.Crossing.{limit, overflowed, receivedOf, consumedOf, writtenOf, totalOpen, totalStart, totalRead, totalWrote, totalFault}
+use Rattle.totals.specs.Crossing.{limit, overflowed, receivedOf, consumedOf, writtenOf, readsOf, countAt, totalOpen, totalStart, totalRead, totalWrote, totalFault}
 
 -- what crosses, on a record with totals
 abbrev pub totalActed : List ℕ → Event → Act → Crossed
@@ -28,19 +30,21 @@ totalBy rec e = totalActed rec e (e .act)
 
 -- ---- the sums
 
--- "the sum of the counts reported by accepted reads", "the sum of accepted piece lengths"
+-- "the sum of the counts reported by accepted reads", "the sum of accepted piece lengths"; and "how many reads it accepted": this call, or the last ([8])
 pub record Sums : Type 0 where
   pub received : ℕ
   pub written : ℕ
+  pub reads : ℕ
 
 abbrev pub noSums : Sums
-noSums = record { received = 0; written = 0 }
+noSums = record { received = 0; written = 0; reads = 0 }
 
--- what an event adds where it is accepted: a read its count, a write what was last asked; a call, a fault and a close nothing
+-- what an event adds where it is accepted: a read its count, and one read; a write what was last asked; a call, a fault and a close nothing. A call starts
+-- with no reads; "one that reports an error not counted"
 abbrev pub adds : Seen → Sums → Act → Sums
-adds s t (start n a b) = t
-adds s t (report (hasRead k)) = record { received = t .received + k; written = t .written }
-adds s t (report wrote) = record { received = t .received; written = t .written + asked (s .last) }
+adds s t (start n a b) = record { received = t .received; written = t .written; reads = 0 }
+adds s t (report (hasRead k)) = record { received = t .received + k; written = t .written; reads = t .reads + 1 }
+adds s t (report wrote) = record { received = t .received; written = t .written + asked (s .last); reads = t .reads }
 adds s t (report (fault kind code)) = t
 
 abbrev pub sumsAfter : Option Answer → Sums → Sums → Sums
@@ -51,22 +55,29 @@ sumsAfter none t t′ = t′
 pub record Shows (capacity : ℕ) (t : Sums) (rec : List ℕ) : Type 0 where
   pub received : receivedOf rec ≡ t .received
   pub written : writtenOf rec ≡ t .written
+  pub reads : readsOf rec ≡ t .reads
   pub consumed : (rx : List ℕ) → length rx ≡ capacity → receivedOf rec ≡ consumedOf rec + length (counting .holds rec rx)
 
 -- ---- what is refused
 
 -- "would pass 2^64 − 1 in a total"
 abbrev pub passes : Sums → Bool
-passes t = leb limit (t .received) || leb limit (t .written)
+passes t = leb limit (t .received) || (leb limit (t .written) || leb limit (t .reads))
 
 -- "21, after 11": behind all that misuse's table refuses
 abbrev pub refusedBy : Seen → Sums → Event → Option Answer
 refusedBy s t e = orElse (refusal s e) (refuse (passes (adds s t (e .act))) (refused overflowed))
 
--- what is answered: a refusal as misuse has it; where there is none, what is told is 0 or one of 12 to 17, and so no refusal
-abbrev pub AnswersBy : Option Answer → List ℕ → Event → Crossed → Type 0
-AnswersBy (some a) rec e c = Answers (some a) rec e c
-AnswersBy none rec e c = (n : ℕ) → c .number ≡ 256 * n → 0 < n → (12 ≤ n) × (n < 18)
+-- "Carry in each finished call's answer how many reads it accepted": the last number of the reply
+abbrev pub countIn : Crossed → ℕ
+countIn c = u64At countAt (c .out)
+
+-- what is answered: a refusal as misuse has it, and no reads in it; where nothing is refused, what is told is 0 or one of 12 to 17, with the call's reads. The
+-- reads stand there where the reply has room for them
+abbrev pub AnswersBy : Option Answer → (reads : ℕ) → List ℕ → Event → Crossed → Type 0
+AnswersBy (some a) k rec e c = Answers (some a) rec e c × (outSize ≤ length (e .out) → countIn c ≡ 0)
+AnswersBy none k rec e c =
+    ((n : ℕ) → c .number ≡ 256 * n → 0 < n → (12 ≤ n) × (n < 18)) × (outSize ≤ length (e .out) → c .number % 256 ≡ 0 → countIn c ≡ k)
 
 -- ---- event after event, on the record as it was left
 
@@ -74,7 +85,7 @@ abbrev pub EveryMoment : Seen → Sums → List ℕ → List Event → Type 0
 EveryMoment s t rec [] = Shows (s .capacity) t rec
 EveryMoment s t rec (e ∷ es) =
     Shows (s .capacity) t rec
-    × (AnswersBy (refusedBy s t e) rec e (totalBy rec e)
+    × (AnswersBy (refusedBy s t e) (adds s t (e .act) .reads) rec e (totalBy rec e)
     × EveryMoment (follow (refusedBy s t e) s e (heardOf (totalBy rec e))) (sumsAfter (refusedBy s t e) t (adds s t (e .act))) (totalBy rec e .rec) es)
 
 -- "For every list of calls and reports from fresh", well placed or not

@@ -2,4 +2,5 @@ pub mod Crossing
 pub mod System
 pub mod Card
 pub mod Claim
+pub mod Logged
 pub mod Facts

@@ -80,7 +80,7 @@ module _ (rec settings banner : List ℕ) (rx msg : ℕ) {l : List ℕ} {n : ℕ
     unfolding totalOpen
     open-refused f = rw (eq-eqb (length rec) recordSize h) (refused size (take size rec) (take-append-drop size rec) e f)
 
-    pub open-in : {y : List ℕ} → n ≡ 0 → y ≡ totalling l 0 0 0 → openCrossed y 0 ≡ totalOpen rec settings banner rx msg
+    pub open-in : {y : List ℕ} → n ≡ 0 → y ≡ totalling l 0 0 0 0 → openCrossed y 0 ≡ totalOpen rec settings banner rx msg
     unfolding totalOpen
     open-in f g = rw (eq-eqb (length rec) recordSize h, ← e, eq-eqb n 0 f) (ap (λ (z : List ℕ). openCrossed z 0) g)
 

@@ -2,7 +2,7 @@
 use Prim.Native.Nat.{ℕ, _≤_, _<_}
 use mathlib.Core.Bool.{Bool, true, false, true≢false, _&&_, _||_, not, and-false, and-true, or-true, and-eq-true-iff}
 use mathlib.Core.List.{List, [], _∷_, _++_}
-use mathlib.Core.Path.{_≡_, sym, ap, subst, _∙_}
+use mathlib.Core.Path.{_≡_, refl, sym, ap, ap₂, subst, _∙_}
 use native.Mathlib.Decide.{decLe}
 use native.Mathlib.Nat.{lt-of-not-le}
 use borrow.Author.Tests.{eq-eqb, ne-eqb, lt-ltb, le-leb, lt-leb, leb-false}
@@ -14,7 +14,7 @@ use Rattle.boundary.specs.Crossing.{Crossed, crossed, turnedAway, crossStart, c
 use Rattle.boundary.specs.Heard.{heard}
 use Rattle.boundary.specs.Told.{outSize, replyNumber, replyBytes}
 use Rattle.boundary_parts.specs.Bounds.{InBounds, named}
-use Rattle.totals.specs.Crossing.{recordSize, askedOf, limit, refuses, pieceAsked, totalling, withTotals, totalled, onRecord}
+use Rattle.totals.specs.Crossing.{recordSize, askedOf, limit, refuses, counted, pieceAsked, totalling, withTotals, totalled, otherLength, onRecord}
 use Rattle.totals_step.specs.Settled.{roomFor, Stands}
 
 -- too short a slice for a reply
@@ -54,72 +54,86 @@ module _ (rec rx msg out : List ℕ) (c : Crossed) (short : length out < outSize
       go (no g) = let h = lt-of-not-le g in rw (lt-leb outSize (length out) h, ← short h)
 
 module _ (rec rx msg out : List ℕ) where
-  pub other-length : (c : Crossed) → (length rec ≡ recordSize → ⊥) → turnedAway rec rx msg out ≡ onRecord rec rx msg out c
-  other-length c h = rw (ne-eqb (length rec) recordSize h)
+  pub other-length : {o : List ℕ} {n : ℕ} (c : Crossed) → (length rec ≡ recordSize → ⊥) → (n ≡ otherLength) × (o ≡ counted otherLength 0 out)
+      → crossed rec rx msg o n ≡ onRecord rec rx msg out c
+  other-length c h (e, f) = rw (ne-eqb (length rec) recordSize h) (ap₂ (λ (l : List ℕ) (m : ℕ). crossed rec rx msg l m) f e)
 
-  -- a step on a record of that length, whose session's step is c
-  module _ (r n : ℕ) (here : length rec ≡ recordSize) (c : Crossed) where
+  -- a step on a record of that length, whose session's step is c; r, n and i are to stand behind it
+  module _ (r n i : ℕ) (here : length rec ≡ recordSize) (c : Crossed) where
     module _ {x rx′ msg′ out′ : List ℕ} {k : ℕ} (e : crossed x rx′ msg′ out′ k ≡ c) where
-      settled-by : withTotals rec r n (crossed x rx′ msg′ out′ k) ≡ onRecord rec rx msg out (withTotals rec r n c)
-      settled-by = rw (eq-eqb (length rec) recordSize here) (ap (withTotals rec r n) e)
+      settled-by : withTotals rec r n i (crossed x rx′ msg′ out′ k) ≡ onRecord rec rx msg out (withTotals rec r n i c)
+      settled-by = rw (eq-eqb (length rec) recordSize here) (ap (withTotals rec r n i) e)
 
       -- a refusal leaves the numbers behind
-      refused : refuses k ≡ true → crossed (x ++ drop size rec) rx′ msg′ out′ k ≡ withTotals rec r n (crossed x rx′ msg′ out′ k)
-      refused f = rw f
+      refused : {o : List ℕ} {m : ℕ} → refuses k ≡ true → (m ≡ k) × (o ≡ counted k 0 out′) → crossed (x ++ drop size rec) rx′ msg′ o m ≡ withTotals rec r n i (crossed x rx′ msg′ out′ k)
+      refused f (g, h) = rw f (ap₂ (λ (l : List ℕ) (m : ℕ). crossed (x ++ drop size rec) rx′ msg′ l m) h g)
 
-      pub settled-refused : refuses k ≡ true → crossed (x ++ drop size rec) rx′ msg′ out′ k ≡ onRecord rec rx msg out (withTotals rec r n c)
-      settled-refused f = refused f ∙ settled-by
+      pub settled-refused : {o : List ℕ} {m : ℕ} → refuses k ≡ true → (m ≡ k) × (o ≡ counted k 0 out′) → crossed (x ++ drop size rec) rx′ msg′ o m ≡ onRecord rec rx msg out (withTotals rec r n i c)
+      settled-refused f g = refused f g ∙ settled-by
 
       -- a step that is taken
-      taken : {y : List ℕ} → refuses k ≡ false → y ≡ totalling x r n (pieceAsked (heard k out′ rx′ msg′) (askedOf rec))
-          → crossed y rx′ msg′ out′ k ≡ withTotals rec r n (crossed x rx′ msg′ out′ k)
-      taken f g = rw f (ap (λ (l : List ℕ). crossed l rx′ msg′ out′ k) g)
+      taken : {y o : List ℕ} {j : ℕ} → refuses k ≡ false → y ≡ totalling x r n (pieceAsked (heard k out′ rx′ msg′) (askedOf rec)) i → j ≡ i → o ≡ counted k j out′
+          → crossed y rx′ msg′ o k ≡ withTotals rec r n i (crossed x rx′ msg′ out′ k)
+      taken f g q h = rw f (ap₂ (λ (l m : List ℕ). crossed l rx′ msg′ m k) g (h ∙ ap (λ (m : ℕ). counted k m out′) q))
 
-      pub settled-taken : {y : List ℕ} → refuses k ≡ false → y ≡ totalling x r n (pieceAsked (heard k out′ rx′ msg′) (askedOf rec))
-          → crossed y rx′ msg′ out′ k ≡ onRecord rec rx msg out (withTotals rec r n c)
-      settled-taken f g = taken f g ∙ settled-by
+      pub settled-taken : {y o : List ℕ} {j : ℕ} → refuses k ≡ false → y ≡ totalling x r n (pieceAsked (heard k out′ rx′ msg′) (askedOf rec)) i → j ≡ i → o ≡ counted k j out′
+          → crossed y rx′ msg′ o k ≡ onRecord rec rx msg out (withTotals rec r n i c)
+      settled-taken f g q h = taken f g q h ∙ settled-by
 
-    -- ---- 21: not for what is refused, nor where both totals stay below the limit
+    -- ---- 21: not for what is refused, nor where all of them stay below the limit
 
-    unless : (not (refuses (c .number)) && (leb limit r || leb limit n)) ≡ false
-        → onRecord rec rx msg out (withTotals rec r n c) ≡ onRecord rec rx msg out (totalled rec rx msg out r n c)
+    abbrev over : Bool
+    over = leb limit r || (leb limit n || leb limit i)
+
+    unless : (not (refuses (c .number)) && over) ≡ false
+        → onRecord rec rx msg out (withTotals rec r n i c) ≡ onRecord rec rx msg out (totalled rec rx msg out r n i c)
     unless f = rw f
 
-    if-refused : refuses (c .number) ≡ true → onRecord rec rx msg out (withTotals rec r n c) ≡ onRecord rec rx msg out (totalled rec rx msg out r n c)
+    if-refused : refuses (c .number) ≡ true → onRecord rec rx msg out (withTotals rec r n i c) ≡ onRecord rec rx msg out (totalled rec rx msg out r n i c)
     if-refused f = unless (rw f)
 
-    if-below : r < limit → n < limit → onRecord rec rx msg out (withTotals rec r n c) ≡ onRecord rec rx msg out (totalled rec rx msg out r n c)
-    if-below p q = unless (rw (lt-leb limit r p, lt-leb limit n q) (and-false (not (refuses (c .number)))))
+    if-below : r < limit → n < limit → i < limit → onRecord rec rx msg out (withTotals rec r n i c) ≡ onRecord rec rx msg out (totalled rec rx msg out r n i c)
+    if-below p q s = unless (rw (lt-leb limit r p, lt-leb limit n q, lt-leb limit i s) (and-false (not (refuses (c .number)))))
 
     module _ {x rx′ msg′ out′ : List ℕ} {k : ℕ} (e : crossed x rx′ msg′ out′ k ≡ c) where
       same-refusal : refuses (c .number) ≡ refuses k
       same-refusal = ap (λ (z : Crossed). refuses (z .number)) (sym e)
 
-      pub totalled-refused : refuses k ≡ true → crossed (x ++ drop size rec) rx′ msg′ out′ k ≡ onRecord rec rx msg out (totalled rec rx msg out r n c)
-      totalled-refused f = settled-refused e f ∙ if-refused (same-refusal ∙ f)
+      pub totalled-refused : {o : List ℕ} {m : ℕ} → refuses k ≡ true → (m ≡ k) × (o ≡ counted k 0 out′) → crossed (x ++ drop size rec) rx′ msg′ o m ≡ onRecord rec rx msg out (totalled rec rx msg out r n i c)
+      totalled-refused f g = settled-refused e f g ∙ if-refused (same-refusal ∙ f)
 
-      pub totalled-taken : {y : List ℕ} → refuses k ≡ false → r < limit → n < limit → y ≡ totalling x r n (pieceAsked (heard k out′ rx′ msg′) (askedOf rec))
-          → crossed y rx′ msg′ out′ k ≡ onRecord rec rx msg out (totalled rec rx msg out r n c)
-      totalled-taken f p q g = settled-taken e f g ∙ if-below p q
+      pub totalled-taken : {y o : List ℕ} {j : ℕ} → refuses k ≡ false → r < limit → n < limit → i < limit → y ≡ totalling x r n (pieceAsked (heard k out′ rx′ msg′) (askedOf rec)) i
+          → j ≡ i → o ≡ counted k j out′ → crossed y rx′ msg′ o k ≡ onRecord rec rx msg out (totalled rec rx msg out r n i c)
+      totalled-taken f p q s g j h = settled-taken e f g j h ∙ if-below p q s
 
-      -- a total that was found not to be passed by what the session takes
-      pub stays-below : {t : Bool} (m : ℕ) → t ≡ not (refuses (c .number)) → leb limit m && t ≡ false → refuses k ≡ false → m < limit
-      stays-below {t} m g f h =
-          let b : t ≡ true = g ∙ ap not (same-refusal ∙ h) in
-          leb-false limit m (sym (and-true (leb limit m)) ∙ (rw b at f))
-
-    told : (not (refuses (c .number)) && (leb limit r || leb limit n)) ≡ true
-        → crossed rec rx msg (put out 0 (words (7 ∷ 0 ∷ 0 ∷ []))) 5376 ≡ onRecord rec rx msg out (totalled rec rx msg out r n c)
-    unfolding replyBytes replyNumber
-    told f = rw (eq-eqb (length rec) recordSize here, f)
+      -- what was found not to be passed by what the session takes
+      pub stays-below : {t : Bool} (b : Bool) → t ≡ not (refuses (c .number)) → b && t ≡ false → refuses k ≡ false → b ≡ false
+      stays-below {t} b g f h = sym (and-true b) ∙ (rw (g ∙ ap not (same-refusal ∙ h)) at f)
 
     -- the report is one that the session takes
-    module _ {t : Bool} (e : t ≡ not (refuses (c .number))) where
-      pub received-over : leb limit r && t ≡ true → crossed rec rx msg (put out 0 (words (7 ∷ 0 ∷ 0 ∷ []))) 5376 ≡ onRecord rec rx msg out (totalled rec rx msg out r n c)
-      received-over f = let (a, b) = and-eq-true-iff (leb limit r) t .0 f in told (rw (← e, a, b))
+    pub told : {t : Bool} {o : List ℕ} {m : ℕ} (b : Bool) → t ≡ not (refuses (c .number)) → b && t ≡ true → (b ≡ true → over ≡ true) → (m ≡ 5376) × (o ≡ counted 5376 0 (put out 0 (words (7 ∷ 0 ∷ 0 ∷ []))))
+        → crossed rec rx msg o m ≡ onRecord rec rx msg out (totalled rec rx msg out r n i c)
+    unfolding replyBytes replyNumber
+    told {t} b e f g (p, q) =
+        let (d, h) = and-eq-true-iff b t .0 f in
+        ap₂ (λ (l : List ℕ) (j : ℕ). crossed rec rx msg l j) q p ∙ rw (eq-eqb (length rec) recordSize here, ← e, h, g d)
 
-      pub written-over : leb limit n && t ≡ true → crossed rec rx msg (put out 0 (words (7 ∷ 0 ∷ 0 ∷ []))) 5376 ≡ onRecord rec rx msg out (totalled rec rx msg out r n c)
-      written-over f = let (a, b) = and-eq-true-iff (leb limit n) t .0 f in told (rw (← e, a, b) (or-true (leb limit r)))
+-- the first or the last of three is not below
+pub either : (r n k : ℕ) → (leb limit r || leb limit k) ≡ true → (leb limit r || (leb limit n || leb limit k)) ≡ true
+either r n k e = go (leb limit r) (leb limit n) (leb limit k) e
+  where
+    go : (a b c : Bool) → (a || c) ≡ true → (a || (b || c)) ≡ true
+    go true b c f = refl
+    go false b c f = rw f (or-true b)
+
+-- two numbers are below
+pub or-below : (r k : ℕ) → (leb limit r || leb limit k) ≡ false → (r < limit) × (k < limit)
+or-below r k e = go (leb limit r) (leb limit k) refl refl e
+  where
+    go : (a b : Bool) → leb limit r ≡ a → leb limit k ≡ b → (a || b) ≡ false → (r < limit) × (k < limit)
+    go true b x y f = absurd (true≢false f)
+    go false true x y f = absurd (true≢false f)
+    go false false x y f = (leb-false limit r x, leb-false limit k y)
 
 -- where a step's parts are inside, what it asks to be written is
 pub stands : {x rx msg out : List ℕ} {k : ℕ} (lent : List ℕ) (c : Crossed) → crossed x rx msg out k ≡ c → InBounds lent c → Stands k out

@@ -1,4 +1,5 @@
--- What is settled in a record by a step that was taken: the bytes consumed, and the length of the piece that was last asked; and what its reply has room for.
+-- What is settled in a record by a step that was taken: the bytes consumed, the length of the piece that was last asked, and the reads of the call; and what
+-- its reply has room for.
 -- Assumes nothing.
 use Prim.Native.Nat.{ℕ, _+_, _-_, _%_, _≤_}
 use mathlib.Core.Bool.{Bool, _&&_}
@@ -16,8 +17,15 @@ use Rattle.totals.specs.Crossing.{receivedOf, askedOf, limit, pieceAsked}
 unfoldable pub askedBy : (number : ℕ) → (out : List ℕ) → (before : ℕ) → ℕ
 askedBy n out b = pieceAsked (heard n out [] []) b
 
+unfoldable pub consumedIn : (rec : List ℕ) → List ℕ
+consumedIn rec = put rec 264 (bytesOf 8 (limit + receivedOf rec + wordOf rec 2 - wordOf rec 3))
+
 unfoldable pub settledBy : (rec : List ℕ) → (number : ℕ) → (out : List ℕ) → List ℕ
-settledBy rec n out = put (put rec 264 (bytesOf 8 (limit + receivedOf rec + wordOf rec 2 - wordOf rec 3))) 280 (bytesOf 8 (askedBy n out (askedOf rec)))
+settledBy rec n out = put (consumedIn rec) 280 (bytesOf 8 (askedBy n out (askedOf rec)))
+
+-- .. with these reads of the call
+unfoldable pub finishedBy : (rec : List ℕ) → (number reads : ℕ) → (out : List ℕ) → List ℕ
+finishedBy rec n k out = settledBy (put rec 288 (bytesOf 8 k)) n out
 
 -- a report is taken where there is room for its reply too
 abbrev pub roomFor : (out : ℕ) → (takes : Bool) → Bool

@@ -1,6 +1,6 @@
 //! A list of calls made on both sides, compared call by call.
-use crate::call::{Answer, Call, Entry, What};
-use crate::counted;
+use crate::call::{Call, Entry, What};
+use crate::counted::{self, Before};
 use crate::held;
 use crate::hex::hex;
 use crate::intended;
@@ -27,8 +27,9 @@ pub struct Tally {
     pub answers: [usize; 18],
     pub reads: usize,
     pub pieces: usize,
-    /// how often the totals were held to the channel's counts
+    /// how often the totals were held to the channel's counts, and the reads of a step
     pub counted: usize,
+    pub reads_counted: usize,
 }
 
 impl Tally {
@@ -110,16 +111,17 @@ impl Pair<'_, '_> {
             tally.refused += 1;
             unless(before.0 == self.host.rec, || "a refused call altered the record".into())?;
         }
-        tally.answers[if let Answer::Not(why) = &made.answer { why.number() as usize } else { 0 }] += 1;
+        tally.answers[made.answer.number() as usize] += 1;
         self.consumed_alike(call, &made, &before.1, tally)
     }
 
     // the call by our steps, with misuse before its reports
     fn made_here(&mut self, call: &Call, tally: &mut Tally) -> Result<Made, String> {
-        let Pair { list, host, rng, .. } = self;
+        let Pair { list, host, rng, our_wire, .. } = self;
         let mut wrong = None;
         let made = steps::make(host, call, &mut |host, step, lent, a, b| {
-            host.step_with(step, lent, a, b, |host, reply| {
+            let before = Before::of(host, our_wire);
+            let number = host.step_with(step, lent, a, b, |host, reply| {
                 if list.misuses && rng.chance(20) {
                     let waits = match reply {
                         1 => Waits::Read { window: host.at(1) as usize },
@@ -131,7 +133,10 @@ impl Pair<'_, '_> {
                         Err(text) => wrong = Some(text),
                     }
                 }
-            })
+            });
+            tally.reads_counted += 1;
+            wrong = wrong.take().or(before.check(host, our_wire, number).err());
+            number
         });
         wrong.map_or(Ok(made), Err)
     }
@@ -162,9 +167,10 @@ impl Pair<'_, '_> {
         let made = steps::make(host, call, &mut |host, step, lent, a, b| host.step(step, lent, a, b));
         let ended = self.session.is_none();
         let number = if ended { 6 } else { intended::refused_here(call).unwrap() };
-        let told = if let Answer::Not(why) = &made.answer { why.number() } else { 0 };
+        let told = made.answer.number();
         unless(told == number, || format!("{number} expected, this answers {:?}", made.answer))?;
         unless((&before.rec, &before.rx, &before.msg) == (&host.rec, &host.rx, &host.msg), || "a refused call altered memory".into())?;
+        unless(host.reads().0 == 0, || "a refused call told reads".into())?;
         unless(self.our_wire.borrow_mut().take_ops().is_empty(), || "a refused call asked the channel".into())?;
         tally.answers[told as usize] += 1;
         if ended {
@@ -180,7 +186,7 @@ impl Pair<'_, '_> {
 fn misused(number: u32, tally: &mut Tally) {
     match number {
         0 => {}
-        counted::OVERFLOW => tally.document("a total without room, where 000 has no totals: 21"),
+        counted::OVERFLOW => tally.document("a total or reads without room, where 000 counts neither: 21"),
         _ => tally.document("misuse that 000's types rule out: 3, 4, 5, 6, 11"),
     }
 }

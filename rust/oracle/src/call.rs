@@ -122,6 +122,11 @@ impl Why {
 }
 
 impl Answer {
+    /// Document 01's number of it: 0 for a call that went through.
+    pub fn number(&self) -> u32 {
+        if let Answer::Not(why) = self { why.number() } else { 0 }
+    }
+
     /// Refused before anything was written: 6 to 10.
     pub fn refused(&self) -> bool {
         matches!(self, Answer::Not(why) if (6..=10).contains(&why.number()))

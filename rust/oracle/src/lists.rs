@@ -26,7 +26,7 @@ pub fn run(count: u64, seed: u64) -> bool {
         }
     }
     println!("{} reads, {} pieces and closes", tally.reads, tally.pieces);
-    println!("totals held to the channel's own counts {} times", tally.counted);
+    println!("totals held to the channel's own counts {} times, the reads of a step {} times", tally.counted, tally.reads_counted);
     println!("answers by number: {}", numbered(&tally.answers));
     for (kind, count) in &tally.documented {
         println!("documented: {kind}: {count}");

@@ -40,6 +40,7 @@ beside_000! {
     use standin::{error, transport};
 }
 
+mod ceiling;
 mod replay;
 
 #[cfg(original)]

@@ -1,6 +1,6 @@
-//! Misuse of our functions that 000's types do not let a host commit, and reports that a total has no room for: each is answered by its
-//! number, and alters nothing.
-use crate::counted::{fill, OVERFLOW};
+//! Misuse of our functions that 000's types do not let a host commit, and reports that a total or the reads have no room for: each is answered by
+//! its number, tells no reads, and alters nothing.
+use crate::counted::{fill, fill_reads, OVERFLOW};
 use crate::ours::Host;
 use crate::rng::Rng;
 use yuglasno::raw;
@@ -65,53 +65,76 @@ fn untimely(waits: Waits, which: usize, number: &mut usize, rng: &mut Rng) -> Op
     })
 }
 
-// a report that is awaited, where no total has room for a byte; a close and a fault have none to count
-fn too_much(waits: Waits, which: usize, number: &mut usize, rng: &mut Rng) -> Option<u32> {
+// what a copy of the session has no room for
+#[derive(Clone, Copy, PartialEq, Eq)]
+enum Full {
+    Nothing,
+    Totals,
+    Reads,
+}
+
+// a report that is awaited, where there is no room for a byte, or for a read; a close and a fault have none to count
+fn too_much(full: Full, waits: Waits, which: usize, number: &mut usize, rng: &mut Rng) -> Option<u32> {
     match (waits, which) {
         (Waits::Read { window }, 1) => *number = 1 + rng.below(window),
-        (Waits::Write, 2) => {}
+        (Waits::Write, 2) if full == Full::Totals => {}
         _ => return None,
     }
     Some(OVERFLOW)
 }
 
-/// One misuse, chosen at random. Gives document 01's number that it was answered with.
-pub fn try_one<W>(host: &Host<W>, waits: Waits, lent: &[u8], rng: &mut Rng) -> Result<u32, String> {
-    let mut copy = Copy { rec: host.rec.to_vec(), rx: host.rx.clone(), msg: host.msg.clone(), out: vec![0; raw::REPLY] };
-    let mut lent = lent.to_vec();
-    let which = rng.below(4);
-    let mut number = rng.below(18);
-    let full = rng.chance(40);
-    if full {
-        fill(&mut copy.rec);
+// a reply that tells an answer to a misuse tells no reads, where it has room for them
+fn tells_none(out: &[u8]) -> bool {
+    out.try_into().map_or(true, |out| raw::told_reads(out) == 0)
+}
+
+// leaves the copy no room, for the bytes or for the reads
+fn filled(copy: &mut Copy, rng: &mut Rng) -> Full {
+    let full = if rng.chance(40) { rng.pick(&[Full::Totals, Full::Reads]) } else { Full::Nothing };
+    match full {
+        Full::Nothing => {}
+        Full::Totals => fill(&mut copy.rec),
+        Full::Reads => fill_reads(&mut copy.rec),
     }
-    let expected = match rng.below(5) {
+    full
+}
+
+// bends a slice, or chooses another number: what is answered then; nothing where that is what is awaited
+fn misuse(copy: &mut Copy, lent: &mut Vec<u8>, full: Full, waits: Waits, which: usize, number: &mut usize, rng: &mut Rng) -> Option<u32> {
+    match rng.below(5) {
         0 => {
             let slices = [&mut copy.rec, &mut copy.rx, &mut copy.msg];
             bent(slices.into_iter().nth(rng.below(3)).unwrap(), rng);
-            3
+            Some(3)
         }
         1 => {
             copy.out.truncate(rng.below(raw::REPLY));
-            3
+            Some(3)
         }
         2 if which > 0 && matches!(waits, Waits::Read { .. } | Waits::Write | Waits::Close) => {
-            bent(&mut lent, rng);
-            3
+            bent(lent, rng);
+            Some(3)
         }
-        3 if full => match too_much(waits, which, &mut number, rng).or_else(|| untimely(waits, which, &mut number, rng)) {
-            Some(expected) => expected,
-            None => return Ok(0),
-        },
-        _ => match untimely(waits, which, &mut number, rng) {
-            Some(expected) => expected,
-            None => return Ok(0),
-        },
-    };
+        3 if full != Full::Nothing => too_much(full, waits, which, number, rng).or_else(|| untimely(waits, which, number, rng)),
+        _ => untimely(waits, which, number, rng),
+    }
+}
+
+/// One misuse, chosen at random. Gives document 01's number that it was answered with.
+pub fn try_one<W>(host: &Host<W>, waits: Waits, lent: &[u8], rng: &mut Rng) -> Result<u32, String> {
+    let mut copy = Copy { rec: host.rec.to_vec(), rx: host.rx.clone(), msg: host.msg.clone(), out: vec![0xEE; raw::REPLY] };
+    let mut lent = lent.to_vec();
+    let which = rng.below(4);
+    let mut number = rng.below(18);
+    let full = filled(&mut copy, rng);
+    let Some(expected) = misuse(&mut copy, &mut lent, full, waits, which, &mut number, rng) else { return Ok(0) };
     let before = (copy.rec.clone(), copy.rx.clone(), copy.msg.clone());
     let reply = copy.ask(which, &lent, number);
     if reply != 256 * expected {
         return Err(format!("misuse {which} with {number} while {waits:?}: {expected} expected, told {}", reply >> 8));
+    }
+    if !tells_none(&copy.out) {
+        return Err(format!("misuse {which} with {number} while {waits:?} told reads"));
     }
     if before != (copy.rec, copy.rx, copy.msg) {
         return Err(format!("misuse {which} with {number} while {waits:?} altered memory"));

@@ -41,6 +41,11 @@ impl<W: Wire> Host<W> {
         raw::totals(&self.rec)
     }
 
+    /// The reads of the last step: as its answer tells them, and as the record has them.
+    pub fn reads(&self) -> (u64, u64) {
+        (raw::told_reads(&self.out), raw::reads(&self.rec))
+    }
+
     /// The i-th number of the last reply.
     #[inline]
     pub fn at(&self, i: usize) -> u64 {

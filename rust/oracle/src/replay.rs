@@ -1,5 +1,6 @@
-//! Replays a stored sample of 000's answers (record.rs says its form) on this library, and holds its totals to the sample's reads, writes and
-//! held bytes. Needs no source of 000.
+//! Replays a stored sample of 000's answers (record.rs says its form) on this library, and holds its totals and the reads of each step to the
+//! sample's reads, writes and held bytes. Needs no source of 000.
+use crate::ceiling;
 use yuglasno::{raw, Settings, Totals};
 
 /// The number of a quit at the boundary.
@@ -50,6 +51,9 @@ struct Replay {
     // bytes that came, and bytes of the writes that were accepted
     gave: u64,
     took: u64,
+    // reads of the step that brought bytes, and what was consumed before it
+    reads: u64,
+    consumed: u64,
     quit: bool,
 }
 
@@ -82,6 +86,7 @@ impl Replay {
         let bytes = f.bytes();
         self.rx[start..start + bytes.len()].copy_from_slice(&bytes);
         self.gave += bytes.len() as u64;
+        self.reads += 1;
         let Replay { rec, rx, msg, out, lent, .. } = self;
         self.reply = raw::read(rec, rx, msg, lent, bytes.len(), out);
         asked
@@ -102,9 +107,19 @@ impl Replay {
         asked
     }
 
+    fn totals(&self) -> Totals {
+        raw::totals(self.rec.as_slice().try_into().expect("a whole record"))
+    }
+
+    // the step's reads as they are told, and the ceiling; a refused one has none
+    fn reads_told(&self, number: u32) -> bool {
+        let told = raw::told_reads(self.out.as_slice().try_into().expect("a whole reply"));
+        told == self.reads && ceiling::kept(number, told, self.totals().consumed - self.consumed)
+    }
+
     // behind a quit the sample has no count of held bytes
     fn counted(&self, held: u64) -> bool {
-        let totals = raw::totals(self.rec.as_slice().try_into().expect("a whole record"));
+        let totals = self.totals();
         let held = if self.quit { totals.held() } else { held };
         totals == Totals { received: self.gave, consumed: self.gave - held, written: self.took }
     }
@@ -113,7 +128,7 @@ impl Replay {
         let (number, kind, count) = (f.n1() as u32, f.n1() as u64, f.n1() as usize);
         let numbers: Vec<u64> = (0..count).map(|_| f.n8()).collect();
         let part = if number == 14 { &self.msg } else { &self.rx };
-        let same = self.reply == 256 * number && self.at(0) == kind;
+        let same = self.reply == 256 * number && self.at(0) == kind && self.reads_told(number);
         same && numbers == (3..3 + count).map(|i| self.at(i)).collect::<Vec<_>>() && self.part(part, 1) == f.bytes()
     }
 
@@ -132,6 +147,7 @@ impl Replay {
                 let (number, a, b) = (f.n1() as u32, f.n4(), f.n4());
                 self.lent = f.bytes();
                 self.quit |= number == QUIT;
+                (self.reads, self.consumed) = (0, self.totals().consumed);
                 let Replay { rec, rx, msg, out, lent, .. } = self;
                 self.reply = raw::start(rec, rx, msg, lent, number, a, b, out);
                 true
@@ -168,6 +184,6 @@ pub fn run(path: &str) -> bool {
             return false;
         }
     }
-    println!("{lists} recorded lists, {steps} steps: all as 000 answered, and the totals what came and went");
+    println!("{lists} recorded lists, {steps} steps: all as 000 answered, and the totals and reads what came and went");
     true
 }

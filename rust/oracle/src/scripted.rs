@@ -27,6 +27,8 @@ pub struct Scripted<'l> {
     list: &'l List,
     /// bytes delivered so far
     pub at: usize,
+    /// reads that brought bytes
+    pub brought: usize,
     /// bytes of the writes that were accepted
     pub took: usize,
     reads: usize,
@@ -43,7 +45,8 @@ pub struct Scripted<'l> {
 
 impl<'l> Scripted<'l> {
     pub fn new(list: &'l List) -> Self {
-        Scripted { list, at: 0, took: 0, reads: 0, writes: 0, rx: 0..0, path: 0..0, data: 0..0, ops: vec![], looking: false }
+        let none = || 0..0;
+        Scripted { list, at: 0, brought: 0, took: 0, reads: 0, writes: 0, rx: none(), path: none(), data: none(), ops: vec![], looking: false }
     }
 
     /// Says where the receive buffer is.
@@ -87,6 +90,7 @@ impl<'l> Scripted<'l> {
         let count = got.unwrap_or(0);
         window[..count].copy_from_slice(&self.list.incoming[self.at..self.at + count]);
         self.at += count;
+        self.brought += got.is_ok() as usize;
         if self.list.scribbles {
             let from = mixed(self.list.seed, read as u64) as usize;
             window[count..].iter_mut().take(40).enumerate().for_each(|(i, b)| *b = (from + i) as u8);

@@ -1,5 +1,5 @@
-//! Document 01's trial pieces, what document 02's [6] says of paths with a NUL, and banners whose pieces nearly are names, each made on both
-//! sides and held to what the documents say.
+//! Document 01's trial pieces, what document 02's [6] says of paths with a NUL, banners whose pieces nearly are names, and totals and reads, each
+//! made on both sides and held to what the documents say.
 use crate::beside::{compare, Tally};
 use crate::call::{Answer, Call, What, Why};
 use crate::counted;
@@ -10,11 +10,13 @@ use crate::scripted::{shared, Op};
 use crate::steps;
 use yuglasno::Totals;
 
-/// What a call of this library answers, the pieces that it writes, how many reads it asks for, and the totals behind it.
+/// What a call of this library answers, the pieces that it writes, how many reads it asks for, how many its last step tells, and the totals
+/// behind it.
 pub struct Seen {
     pub answer: Answer,
     pub pieces: Vec<Vec<u8>>,
     pub reads: usize,
+    pub told: u64,
     pub totals: Totals,
 }
 
@@ -27,7 +29,7 @@ pub fn seen(list: &List) -> Vec<Seen> {
         let ops = wire.borrow_mut().take_ops();
         let reads = ops.iter().filter(|op| matches!(op, Op::Read { .. })).count();
         let piece = |op| if let Op::Write { piece, .. } = op { Some(piece) } else { None };
-        Seen { answer, pieces: ops.into_iter().filter_map(piece).collect(), reads, totals: host.totals() }
+        Seen { answer, pieces: ops.into_iter().filter_map(piece).collect(), reads, told: host.reads().0, totals: host.totals() }
     };
     list.calls.iter().map(make).collect()
 }

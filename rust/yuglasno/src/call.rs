@@ -1,5 +1,7 @@
 //! The calls of a session with what each is lent, and what the host reports of a step.
 use crate::numbers::{FileMode, SyncFlags};
+use crate::shown::Shown;
+use std::fmt;
 
 /// A call, with the path or data that it lends to the session until it is answered. A path has at most
 /// [`PATH_MOST`](crate::PATH_MOST) bytes, none of them NUL; data has any length.
@@ -46,6 +48,26 @@ impl<'l> Call<'l> {
         }
     }
 
+    /// The session's method that makes it.
+    fn name(&self) -> &'static str {
+        match self {
+            Self::Stat(_) => "stat",
+            Self::StatV2(_) => "stat_v2",
+            Self::List(_) => "list",
+            Self::ListV2(_) => "list_v2",
+            Self::Recv(_) => "recv",
+            Self::RecvV2(..) => "recv_v2",
+            Self::Send(..) => "send",
+            Self::SendV2(..) => "send_v2",
+            Self::Data(_) => "data",
+            Self::SendDone(_) => "send_done",
+            Self::Quit => "quit",
+            Self::NextEntry => "next_entry",
+            Self::NextEntryV2 => "next_entry_v2",
+            Self::RecvNext => "recv_next",
+        }
+    }
+
     /// The library's number of the call, its mode or time, its flags.
     pub(crate) fn numbers(&self) -> (u32, u32, u32) {
         match *self {
@@ -63,6 +85,25 @@ impl<'l> Call<'l> {
             Self::NextEntry => (12, 0, 0),
             Self::NextEntryV2 => (13, 0, 0),
             Self::RecvNext => (14, 0, 0),
+        }
+    }
+}
+
+/// For people: its name, that of the session's method, and behind it the path, where it has one.
+///
+/// ```
+/// use yuglasno::{Call, FileMode};
+/// assert_eq!(Call::StatV2(b"/jobs/T98.job").to_string(), "stat_v2 /jobs/T98.job");
+/// assert_eq!(Call::Send(b"/a\n", FileMode(0o100644)).to_string(), "send /a\\n");
+/// assert_eq!(Call::RecvNext.to_string(), "recv_next");
+/// ```
+impl fmt::Display for Call<'_> {
+    fn fmt(&self, f: &mut fmt::Formatter<'_>) -> fmt::Result {
+        f.write_str(self.name())?;
+        match self {
+            Self::Data(_) => Ok(()),
+            _ if self.lent().is_empty() => Ok(()),
+            _ => write!(f, " {}", Shown(self.lent())),
         }
     }
 }

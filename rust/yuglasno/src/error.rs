@@ -11,7 +11,8 @@ use std::{fmt, io};
 ///
 /// 1 to 11 are the caller's: session and buffers are as before. 12 and 13 are the link's, 14 to 17 the panel's. 18 is that of a reader
 /// of requests, 20 that of a writer of replies: nothing is taken or written. 19 is that of an index, which is as before. 21 is that of a
-/// report that a total has no room for: session and buffers are as before. 22 and 23 are those of a table of ids: the old one stays.
+/// report that a total, or the count of a call's reads, has no room for: session and buffers are as before. 22 and 23 are those of a table
+/// of ids: the old one stays.
 /// Where several apply, the first of 1, 2, then 3, 6, 4, 5, 8, 7, 9, 10 is answered; of a report 3, 6, 5, 11, 21. Of a table it is 22,
 /// then 23, behind 1 to 3. Of an index it is 3, then 19. Of a reply the settings come first (3, 22, 23), then its kind and numbers (3), then 20;
 /// of a request the settings, then 18.
@@ -74,8 +75,9 @@ pub enum Error {
     /// 20: a reply ([`PanelReply`](crate::PanelReply)) that the buffer can't hold, with data over 65,536 bytes, or with a name or
     /// text of 2^32 bytes or more. Nothing is written.
     LongReply,
-    /// 21: a read or a write that would take a total past 2^64 - 1, with the totals as they are. It is not counted, and the session
-    /// still waits for its report: a read of fewer bytes may be taken, and a fault is ([`Report`](crate::Report)).
+    /// 21: a read or a write that would take a total past 2^64 - 1, or a read that would take the pending call's count of reads there,
+    /// with the totals as they are. It is not counted, and the session still waits for its report: a read of fewer bytes may be taken
+    /// where it is a total, and a fault is ([`Report`](crate::Report)).
     Overflow(Totals),
     /// 22: a file, or the settings that a session is opened with, is no table of ids. The text says what is seen to be wrong; it
     /// is this crate's, and the number the library's.
@@ -186,7 +188,7 @@ impl fmt::Display for Error {
             Self::BadRequest => f.write_str("the bytes are no request"),
             Self::IndexFull => f.write_str("the index has no room for the entry"),
             Self::LongReply => f.write_str("the reply does not fit"),
-            Self::Overflow(totals) => write!(f, "a total of bytes would pass 2^64 - 1 ({totals})"),
+            Self::Overflow(totals) => write!(f, "a total of bytes, or a call's reads, would pass 2^64 - 1 ({totals})"),
             Self::BadIds(seen) => write!(f, "not a table of ids{}", behind(seen)),
             Self::EqualIds(seen) => write!(f, "two ids of the table are equal{}", behind(seen)),
             Self::Other(_) => f.write_str("not a number that this program knows"),

@@ -23,7 +23,7 @@
 //!
 //! The panel's side is there too: [`Call::heard`] reads a host's request, [`PanelReply`] writes a reply, and [`panel`] serves jobs by both.
 //!
-//! [`Session::totals`] says how many bytes a session has received, consumed and written.
+//! [`Session::totals`] says how many bytes a session has received, consumed and written, [`Session::reads`] how many reads a call accepted.
 //!
 //! What a call comes to has a number: see [`Error`]. A chunk and a name are parts of the receive buffer, lent until the
 //! session's next call; the session allocates nothing but the copy of a FAIL's text that its error keeps.

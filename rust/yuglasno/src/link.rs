@@ -1,4 +1,5 @@
 //! The channel that a session is driven over: read, write, close.
+use crate::call::Call;
 use std::io::{self, ErrorKind, Read, Write};
 
 /// What a read, a write or the close came to, where it did not succeed.
@@ -22,6 +23,9 @@ pub trait Link {
     fn write_piece(&mut self, piece: &[u8]) -> Result<(), Fault>;
     /// Closes the channel.
     fn close(&mut self) -> Result<(), Fault>;
+    /// Hears of each call that is over, of those that a whole transfer makes too: what was called, and how many reads it accepted
+    /// ([`Session::reads`](crate::Session::reads)). A call that is refused is none. Does nothing, unless a link has a use for it.
+    fn call_over(&mut self, _call: &Call<'_>, _reads: u64) {}
 }
 
 impl<T: Read + Write + ?Sized> Link for T {

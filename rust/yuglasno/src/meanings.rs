@@ -29,7 +29,7 @@ pub const MEANINGS: [(u32, &str); 24] = [
     (18, "the bytes are no request of a host"),
     (19, "the index has no room for an entry; it is as it was before that entry"),
     (20, "the reply does not fit: the buffer can't hold it, its data is over 65,536 bytes, or its name or text has 2^32 bytes or more; nothing is written"),
-    (21, "a read or a write would take a total of bytes past 2^64 - 1; it is not counted, and the session still waits"),
+    (21, "a read or a write would take a total of bytes, or a call's reads, past 2^64 - 1; it is not counted, and the session still waits"),
     (22, "a file, or the settings of an opening, is no table of ids; the old table stays"),
     (23, "two ids of the table are equal; the old table stays"),
 ];

@@ -54,11 +54,11 @@ mod linked {
 }
 
 /// The length of a record.
-pub const RECORD: usize = 288;
+pub const RECORD: usize = 296;
 /// The length of settings.
 pub const SETTINGS: usize = 128;
 /// The length of a slice that takes any reply.
-pub const REPLY: usize = 112;
+pub const REPLY: usize = 120;
 /// The length of an index's slots.
 pub const SLOTS: usize = 65568;
 
@@ -75,10 +75,20 @@ pub fn totals(rec: &[u8; RECORD]) -> Totals {
     Totals { received: number(rec, 32), consumed: number(rec, 33), written: number(rec, 34) }
 }
 
-/// The `i`-th number of a record.
+/// How many reads were accepted in the call that is pending, or in the one that was over last: the record's number 36.
+pub fn reads(rec: &[u8; RECORD]) -> u64 {
+    number(rec, 36)
+}
+
+/// How many reads the answer in a reply tells: those of the call that is over, 0 of a refusal. The reply's number 14.
+pub fn told_reads(out: &[u8; REPLY]) -> u64 {
+    number(out, 14)
+}
+
+/// The `i`-th number of a record or a reply.
 #[inline]
-fn number(rec: &[u8; RECORD], i: usize) -> u64 {
-    u64::from_le_bytes(rec[8 * i..8 * i + 8].try_into().expect("eight bytes"))
+fn number(bytes: &[u8], i: usize) -> u64 {
+    u64::from_le_bytes(bytes[8 * i..8 * i + 8].try_into().expect("eight bytes"))
 }
 
 /// Makes `settings` the published ones: 0, or 3 for another length than [`SETTINGS`].

@@ -46,7 +46,7 @@ impl Bytes {
     }
 }
 
-/// The answer to a report that a total has no room for.
+/// The answer to a report that a total or the count of reads has no room for.
 pub(crate) const OVERFLOW: u32 = 21;
 
 /// Whether an answer changes nothing: what was asked for still is.

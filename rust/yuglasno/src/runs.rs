@@ -4,7 +4,7 @@ use crate::call::{Call, Report};
 use crate::error::Error;
 use crate::link::{code_of, Fault, Link};
 use crate::numbers::{FileMode, SyncFlags};
-use crate::reply::{Ask, Part, Reply};
+use crate::reply::{refused, Ask, Part, Reply};
 use crate::session::Session;
 use std::io;
 
@@ -30,18 +30,36 @@ impl<R: AsMut<[u8]>, M: AsMut<[u8]>> Session<R, M> {
         self.outcome(ended)
     }
 
-    /// Goes on with a call that is pending: after an 11, or one that was started by steps. 5 where none is. After a 21 the link is
-    /// not asked: what it read or wrote is reported again, so that no byte is read over another, and none written twice.
+    /// Goes on with a call that is pending: after an 11, or one that was started by steps. 5 where none is, and 6 after quit. After a 21
+    /// the link is not asked: what it read or wrote is reported again, so that no byte is read over another, and none written twice.
     pub fn resume(&mut self, link: &mut (impl Link + ?Sized), call: &Call<'_>) -> Result<Answer<'_>, Error> {
         let reply = match (self.uncounted(), self.waits_for()) {
-            (Some(report), _) => Some(self.tell(call, report)),
-            (None, ask) => ask.map(Reply::Ask),
+            (Some(report), _) => self.tell(call, report),
+            (None, Some(ask)) => Reply::Ask(ask),
+            // no report is awaited: the library refuses it
+            (None, None) => self.tell(call, Report::Done),
         };
-        let ended = match reply {
-            Some(reply) => self.drive(link, call, reply),
-            None => Ended { number: 5, fault: None },
-        };
+        let ended = self.drive(link, call, reply);
         self.outcome(ended)
+    }
+
+    /// Whether the reads of a link are gathered until the session has what it wants, as they are at first, or each is reported by
+    /// itself. What is asked of the link and answered is the same. By itself each counts: [`Session::reads`] is then how often the link
+    /// was read, but for a read that came to a fault.
+    ///
+    /// ```
+    /// use yuglasno::{panel::Panel, Session};
+    ///
+    /// let mut link = Panel::with_jobs().cut(1); // its replies come byte by byte
+    /// let mut session = Session::open(b"", [0; 64], [0; 64]).unwrap();
+    /// session.stat(&mut link, "/jobs").unwrap();
+    /// assert_eq!(session.reads(), 2, "the header, and the other 8 bytes");
+    /// session.set_gathering(false);
+    /// session.stat(&mut link, "/jobs").unwrap();
+    /// assert_eq!(session.reads(), 16);
+    /// ```
+    pub fn set_gathering(&mut self, gathers: bool) {
+        self.gathers = gathers;
     }
 
     /// A file's mode, size and time. One that is not there is all zeros.
@@ -164,7 +182,12 @@ impl<R: AsMut<[u8]>, M: AsMut<[u8]>> Session<R, M> {
         let mut behind = None;
         loop {
             let came = match reply {
-                Reply::Told(number) => return Ended { number, fault },
+                Reply::Told(number) => {
+                    if !refused(number) {
+                        link.call_over(call, self.reads());
+                    }
+                    return Ended { number, fault };
+                }
                 Reply::Ask(Ask::Read(part)) => match behind.take() {
                     Some(met) => Err(met),
                     None => self.gather(link, part, &mut behind).map(Report::Read),
@@ -176,7 +199,7 @@ impl<R: AsMut<[u8]>, M: AsMut<[u8]>> Session<R, M> {
         }
     }
 
-    /// Reads until the session has what it wants or the window is full: a report of fewer bytes would only move the window
+    /// Reads once, or until the session has what it wants or the window is full: a report of fewer bytes would only move the window
     /// on. A fault behind some bytes is kept until they are reported.
     fn gather(
         &mut self,
@@ -184,7 +207,7 @@ impl<R: AsMut<[u8]>, M: AsMut<[u8]>> Session<R, M> {
         part: Part,
         behind: &mut Option<Fault>,
     ) -> Result<usize, Fault> {
-        let enough = self.wanted();
+        let enough = if self.gathers { self.wanted() } else { 1 };
         let window = self.window(part.range());
         let enough = enough.min(window.len());
         let mut count = 0;

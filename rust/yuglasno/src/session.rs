@@ -22,6 +22,8 @@ pub struct Session<R, M = R> {
     asked: Option<Ask>,
     /// A report of what is asked that was answered 21: it was read or written, and is not counted.
     uncounted: Option<Report>,
+    /// Whether reads of a link are gathered.
+    pub(crate) gathers: bool,
     rx: R,
     msg: M,
 }
@@ -58,7 +60,10 @@ impl<R: AsMut<[u8]>, M: AsMut<[u8]>> Session<R, M> {
     pub fn open_with(settings: &Settings, banner: &[u8], mut rx: R, mut msg: M) -> Result<Self, Error> {
         let mut record = [0; RECORD];
         match raw::open(&mut record, settings.as_bytes(), banner, rx.as_mut().len(), msg.as_mut().len()) {
-            0 => Ok(Self { record, reply: [0; REPLY], told: 0, asked: None, uncounted: None, rx, msg }),
+            0 => {
+                let (asked, uncounted, gathers) = (None, None, true);
+                Ok(Self { record, reply: [0; REPLY], told: 0, asked, uncounted, gathers, rx, msg })
+            }
             number => Err(settings.refused(number)),
         }
     }
@@ -119,6 +124,34 @@ impl<R: AsMut<[u8]>, M: AsMut<[u8]>> Session<R, M> {
     /// ```
     pub fn totals(&self) -> Totals {
         raw::totals(&self.record)
+    }
+
+    /// How many reads the last answer tells: those that its call accepted, from its start on. A refusal tells 0. While a call is
+    /// pending, and behind a refusal beside it too, the reads that it has accepted until now.
+    ///
+    /// A read is a [`Report::Read`] that was accepted: one that was refused is none, nor is a fault. What a read brought beyond its call
+    /// is there for the next one, which may so need none. Over a [`Link`](crate::Link) several reads of it may be one
+    /// report: see [`Session::set_gathering`]. A call that is answered anything but 12 or 13 has accepted at most 8 reads more than it has
+    /// consumed bytes ([`Totals::consumed`]).
+    ///
+    /// ```
+    /// use yuglasno::{Call, Report, Session, Step};
+    ///
+    /// let mut session = Session::open(b"", [0; 16], [0; 16]).unwrap();
+    /// let call = Call::Stat(b"/a");
+    /// assert!(matches!(session.start(&call), Step::Write(_)));
+    /// let Step::Read(window) = session.report(&call, Report::Done) else { panic!() };
+    /// window.copy_from_slice(b"STAT\xA4\x81\0\0\xCE\x07\0\0\x05\0\0\0");
+    /// assert!(matches!(session.report(&call, Report::Read(3)), Step::Read(window) if window.len() == 13));
+    /// assert_eq!(session.reads(), 1);
+    /// assert!(matches!(session.report(&call, Report::Read(13)), Step::Told(Ok(_))));
+    /// assert_eq!(session.reads(), 2);
+    /// ```
+    pub fn reads(&self) -> u64 {
+        match self.asked {
+            Some(_) => raw::reads(&self.record),
+            None => raw::told_reads(&self.reply),
+        }
     }
 
     /// What the pending call waits for, its parts unborrowed.

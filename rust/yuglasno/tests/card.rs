@@ -1,5 +1,5 @@
-//! `transfer --card`: the bytes on the cable as its last line, beside those that went through a `tee` on either side of the panel; where a
-//! command fails, over more than one session, and where none was opened.
+//! `transfer --card`: the bytes on the cable as its last line, beside those that went through a `tee` on either side of the panel; the most
+//! reads of a call, of a panel whose replies come byte by byte; where a command fails, over more than one session, and where none was opened.
 mod common;
 use common::archives::{made, put, text, TIME, V2};
 use common::program::{folder, names, told, transfer, PANEL};
@@ -9,16 +9,28 @@ use std::path::{Path, PathBuf};
 const FAIL: i32 = 14;
 const NO_SESSION: &str = "card: 0 bytes received, 0 consumed, 0 written (no session was opened)";
 
-/// The numbers of a card that is the last line, with what stands behind them, and the lines before it.
+/// What stands between the bytes and the most reads of a call.
+const MOST: &str = "; most reads of a call: ";
+
+/// The numbers of a card that is the last line, with what stands behind them of its sessions, and the lines before it.
 fn card(said: &str) -> ([u64; 3], &str, Vec<&str>) {
     let mut lines: Vec<&str> = said.lines().collect();
     let last = lines.pop().unwrap_or_default();
-    let (line, behind) = last.split_once(" (").unwrap_or((last, ""));
+    let (bytes, _) = last.split_once(MOST).unwrap_or((last, ""));
+    let (line, behind) = bytes.split_once(" (").unwrap_or((bytes, ""));
     let words: Vec<&str> = line.split(' ').collect();
     let ["card:", received, "bytes", "received,", consumed, "consumed,", written, "written"] = words[..] else {
         panic!("no card: {said}")
     };
     ([received, consumed, written].map(|number| number.parse().unwrap()), behind, lines)
+}
+
+/// The most reads of a call on such a card, and which call it was.
+fn most(said: &str) -> (u64, &str) {
+    let behind = said.lines().last().and_then(|line| line.split_once(MOST)).map(|(_, most)| most);
+    let most = behind.and_then(|most| most.strip_suffix(')')).and_then(|most| most.split_once(" ("));
+    let (reads, call) = most.unwrap_or_else(|| panic!("no reads: {said}"));
+    (reads.parse().unwrap(), call)
 }
 
 /// A panel's program on pipes, whose both ways are kept.
@@ -65,9 +77,38 @@ fn the_bytes_of_each_command() {
             let (totals, behind, lines) = card(&out);
             assert_eq!((status, error.as_str(), behind), (0, "", ""), "{words:?}");
             assert_eq!(totals, [said, said, asked], "{words:?}");
+            assert!((1..=said).contains(&most(&out).0), "{words:?}: {out}");
             let without = told(&[&["--panel", "--features", features], words].concat()).1;
             assert_eq!(lines.len(), without.lines().count(), "{words:?}: {without}");
         }
+    }
+}
+
+/// A byte to a read: a call has as many reads as its reply has bytes. Of several calls with the most it is the first.
+#[test]
+fn the_most_reads_of_a_call() {
+    let root = folder("card of reads");
+    let (file, dir) = (root.join("out.job"), root.join("dir"));
+    let (job, empty) = ("/jobs/1998-toric.job", "/jobs/empty.job");
+    let long = &"p".repeat(1_025);
+    for (features, words, expected) in [
+        (V2, &["stat", job][..], (72, "stat_v2 /jobs/1998-toric.job")),
+        ("", &["stat", job], (16, "stat /jobs/1998-toric.job")),
+        // an entry's record, and a name of 16 bytes
+        (V2, &["ls", "/jobs"], (92, "next_entry_v2")),
+        ("", &["ls", "--to", "1998-01-01", "/jobs"], (36, "next_entry")),
+        (V2, &["pull", job, text(&file)], (65_544, "recv_next")),
+        // the stats before and after it have more bytes than its only reply
+        (V2, &["pull", empty, text(&file)], (72, "stat_v2 /jobs/empty.job")),
+        ("", &["push", text(&file), "/jobs/new\n.job"], (16, "stat /jobs/new\\n.job")),
+        (V2, &["archive", "/jobs", text(&dir)], (65_544, "recv_next")),
+        // where it fails: an errno, a reply that the buffer can't hold, a call that is refused and is none
+        (V2, &["stat", "/none"], (72, "stat_v2 /none")),
+        (V2, &["--capacity", "71", "stat", "/jobs"], (8, "stat_v2 /jobs")),
+        (V2, &["stat", long], (0, "quit")),
+    ] {
+        let (_, out, error) = told(&[&["--card", "--panel", "--cut", "1", "--features", features], words].concat());
+        assert_eq!(most(&out), expected, "{words:?}: {out}{error}");
     }
 }
 
@@ -112,6 +153,11 @@ fn an_archive_over_two_sessions() {
     assert_eq!((status, behind), (79, "in 2 sessions)"), "{error}");
     assert_eq!((totals, lines.len()), ([said, said, asked], 2));
     assert!(names(&other).contains(&"b".to_string()));
+    // the FAIL that ended the first session has 86 bytes, more than any reply of the second
+    let place = ["--card", "--folder", text(&dir), "--cut", "1", "--features", V2];
+    let third = served.parent().unwrap().join("third");
+    let (_, out, _) = told(&[&place[..], &["archive", "/", text(&third)]].concat());
+    assert_eq!((card(&out).1, most(&out)), ("in 2 sessions)", (86, "recv_next")));
 }
 
 #[test]

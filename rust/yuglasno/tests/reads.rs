@@ -1,5 +1,6 @@
-//! Reads over a link are gathered until a need is met. The windows asked of the link are those of a host that reports every
-//! single read, and so are the answers.
+//! Reads over a link are gathered until a need is met, or each is reported by itself. The windows asked of the link are those of a host
+//! that takes the steps itself and reports every single read, and so are the answers; the reads are as many where none are gathered, and
+//! else no more.
 mod common;
 use common::*;
 use yuglasno::{Call, Fault, Link, Report, Session, Step};
@@ -50,6 +51,32 @@ fn stepped(session: &mut Session<Vec<u8>>, link: &mut Watched, call: &Call<'_>) 
     }
 }
 
+/// How a call is made: over the link, gathered or not, or by steps.
+#[derive(Clone, Copy, Debug)]
+enum Way {
+    Gathered,
+    Each,
+    Stepped,
+}
+
+/// What seven calls for an entry answer, the reads that each accepted, and the windows that the link was asked to fill.
+fn made(way: Way, script: Script, capacity: usize) -> (Vec<String>, Vec<u64>, Vec<usize>) {
+    let mut link = Watched { script, windows: Vec::new() };
+    let mut session = Session::open(b"", vec![0xAA; capacity], vec![0xBB; capacity]).unwrap();
+    session.set_gathering(matches!(way, Way::Gathered));
+    let (mut answers, mut reads) = (Vec::new(), Vec::new());
+    for _ in 0..7 {
+        answers.push(number(&match way {
+            Way::Gathered | Way::Each => format!("{:?}", session.call(&mut link, &Call::NextEntry)),
+            Way::Stepped => stepped(&mut session, &mut link, &Call::NextEntry),
+        }));
+        reads.push(session.reads());
+    }
+    let all: u64 = reads.iter().sum();
+    assert!(all <= link.script.brought && (all == link.script.brought || matches!(way, Way::Gathered)), "{way:?}");
+    (answers, reads, link.windows)
+}
+
 /// Without the words of the fault itself, which a host that takes the steps keeps.
 fn number(text: &str) -> String {
     text.replace(": Connection timed out (os error 110)", "")
@@ -69,22 +96,13 @@ fn windows_and_answers_are_those_of_single_reads() {
     for capacity in [28, 40, 100, 4096] {
         for cut in cuts() {
             for end in [End::Closed, End::Error(110)] {
-                let mut ways = Vec::new();
-                for gathered in [false, true] {
-                    let script = Script::new(&incoming[..incoming.len() - 2], cut, end);
-                    let mut link = Watched { script, windows: Vec::new() };
-                    let mut session = Session::open(b"", vec![0xAA; capacity], vec![0xBB; capacity]).unwrap();
-                    let mut answers = Vec::new();
-                    for _ in 0..7 {
-                        answers.push(number(&match gathered {
-                            true => format!("{:?}", session.call(&mut link, &Call::NextEntry)),
-                            false => stepped(&mut session, &mut link, &Call::NextEntry),
-                        }));
-                    }
-                    ways.push((answers, link.windows));
-                }
-                assert!(ways[0].1.len() >= 2);
-                assert_eq!(ways[0], ways[1], "capacity {capacity}, cut {cut}, {end:?}");
+                let script = || Script::new(&incoming[..incoming.len() - 2], cut, end);
+                let stepped = made(Way::Stepped, script(), capacity);
+                assert!(stepped.2.len() >= 2);
+                assert_eq!(made(Way::Each, script(), capacity), stepped, "capacity {capacity}, cut {cut}, {end:?}");
+                let (answers, reads, windows) = made(Way::Gathered, script(), capacity);
+                assert_eq!((answers, windows), (stepped.0, stepped.2), "capacity {capacity}, cut {cut}, {end:?}");
+                assert!(reads.iter().zip(&stepped.1).all(|(gathered, each)| gathered <= each));
             }
         }
     }

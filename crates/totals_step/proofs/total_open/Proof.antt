@@ -22,14 +22,14 @@ aggregate c = sym (length-take-le size (now (c .before .before .before .before .
 
 returns-2 : tie.Need-returns-2
 returns-2 c =
-    let s = c .before .before .before .before .before .before .before in
+    let s = c .before .before .before .before .before .before .before .before .before .before .before in
     let a = s .before .before .before .before .before .before .args in
     let rec = now (a .rec) in
-    let zero = c .before .before .before .before .if2 .taken in
+    let zero = c .before .before .before .before .before .before .before .before .if2 .taken in
     open-in rec (now (a .settings)) (now (a .banner)) (a .rx) (a .msg) (s .before .before .if1 .left) (s .session-open2 .ensures) zero
     (put-none (s .session-open2 .last .0) (drop size rec) (s .session-open2 .kept .0 ∙ length-take-le size rec (omega arith)) (omega (arith, length-drop size rec))
     (open-none rec (now (a .settings)) (now (a .banner)) (a .rx) (a .msg) (s .before .before .if1 .left) (s .session-open2 .ensures) zero)
-    (c .before .before .put-four .ensures))
+    (c .before .before .before .before .before .before .put-four .ensures) (c .before .before .put-u64 .ensures))
 
 returns-3 : tie.Need-returns-3
 returns-3 c =
@@ -48,6 +48,7 @@ total-open-spec =
     returns
     (λ c. search needs)
     aggregate
+    (λ c κs. search needs)
     (λ c κs. search needs)
     (λ c κs. search needs)
     (λ c. search needs)

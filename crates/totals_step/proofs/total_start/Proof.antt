@@ -2,7 +2,7 @@
 use Prim.Native.Nat.{ℕ, _≤_, _<_}
 use mathlib.Core.Bool.{false}
 use mathlib.Core.List.{List}
-use mathlib.Core.Path.{_≡_, sym, _∙_}
+use mathlib.Core.Path.{_≡_, refl, sym, _∙_}
 use denote.Ref.{now}
 use native.Mathlib.Omega.{arith}
 use borrow.Author.Needs.{needs}
@@ -23,7 +23,7 @@ use Rattle.totals_step.proofs.total_start.Tie as tie
 
 returns : tie.Need-returns
 unfolding totalStart
-returns c = other-length _ _ _ _ _ (c .if1 .taken)
+returns c = other-length _ _ _ _ _ (c .before .before .before .before .if1 .taken) (c .before .before .refused .ensures)
 
 -- the step of the session
 module _ (c : tie.Else1) where
@@ -53,11 +53,11 @@ aggregate c = sym (length-take-le size (rec (c .before)) (omega arith))
 returns-2 : tie.Need-returns-2
 unfolding totalStart
 returns-2 c =
-    let s = c .before .before .before .before .before .before .before .before .before .before in
+    let s = c .before .before .before .before .before .before .before .before .before .before .before .before .before .before in
     let u = s .before .before .before .before .before in
     let a = start u .args in
-    settled-refused (rec u) (now (a .rx)) (now (a .msg)) (now (a .out)) (receivedOf (rec u)) (writtenOf (rec u)) (u .if1 .left) (step u) (s .session-start .ensures)
-    (sym (c .before .refuses .ensures) ∙ c .if2 .taken)
+    settled-refused (rec u) (now (a .rx)) (now (a .msg)) (now (a .out)) (receivedOf (rec u)) (writtenOf (rec u)) 0 (u .if1 .left) (step u) (s .session-start .ensures)
+    (sym (c .before .before .before .before .before .refuses .ensures) ∙ c .before .before .before .before .if2 .taken) (c .before .before .refused2 .ensures)
 
 -- it was taken
 module _ (c : tie.Else2) where
@@ -75,8 +75,8 @@ module _ (c : tie.Else2) where
       room-taken (take size (rec front)) (now (start front .args .rx)) (now (start front .args .msg)) (now (start front .args .out)) (step front) (short front)
       (session .session-start .ensures) untold
 
-settle-requires : tie.Need-settle-requires
-settle-requires c κs =
+finish-requires : tie.Need-finish-requires
+finish-requires c κs =
     let t = c .before .before in
     let h = room t in
     (omega arith, omega (arith, h), stands (now (start (front t) .args .lent)) (step (front t)) (session t .session-start .ensures) (inside (front t)))
@@ -84,23 +84,27 @@ settle-requires c κs =
 returns-3 : tie.Need-returns-3
 unfolding totalStart
 returns-3 c =
-    let t = c .before .before .before .before .before in
+    let t = c .before .before .before .before .before .before .before in
     let s = session t in
     let u = front t in
     let a = start u .args in
-    settled-taken (rec u) (now (a .rx)) (now (a .msg)) (now (a .out)) (receivedOf (rec u)) (writtenOf (rec u)) (u .if1 .left) (step u) (s .session-start .ensures)
+    let f = c .before .before .before .before .finish .ensures in
+    settled-taken (rec u) (now (a .rx)) (now (a .msg)) (now (a .out)) (receivedOf (rec u)) (writtenOf (rec u)) 0 (u .if1 .left) (step u) (s .session-start .ensures)
     (untold t)
     (settles-same (rec u) (u .if1 .left) (known u) (s .session-start .last .0)
-    (s .session-start .kept .0 ∙ length-take-le size (rec u) (omega (arith, u .if1 .left))) _ _ _ _
-    (c .before .before .settle .ensures))
+    (s .session-start .kept .0 ∙ length-take-le size (rec u) (omega (arith, u .if1 .left))) 0 _ _ _ _ refl (f .0))
+    refl (f .1)
 
 pub total-start-spec : {M : Type 1} → statement M
 total-start-spec =
     tie.close
     (tie.spec
+    (λ c κs. search needs)
+    (λ c. search needs)
     returns
     (λ c. search needs)
     aggregate
+    (λ c κs. search needs)
     (λ c κs. search needs)
     (λ c κs. search needs)
     (λ c. search needs)
@@ -108,7 +112,7 @@ total-start-spec =
     (λ c. search needs)
     (λ c. search needs)
     returns-2
-    settle-requires
+    finish-requires
     (λ c. search needs)
     (λ c. search needs)
     (λ c. search needs)

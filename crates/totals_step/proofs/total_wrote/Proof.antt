@@ -1,34 +1,35 @@
 -- `totals_step::total_wrote` meets its contract. Assumes nothing.
 use Prim.Native.Nat.{ℕ, _+_, _≤_, _<_}
-use mathlib.Core.Bool.{Bool, _&&_, not}
-use mathlib.Core.List.{List}
+use mathlib.Core.Bool.{Bool, false, _&&_, not, or-true}
+use mathlib.Core.List.{List, _++_}
 use mathlib.Core.Path.{_≡_, sym, ap, ap₂, _∙_}
 use denote.Ref.{now}
 use native.Mathlib.Omega.{arith}
 use borrow.Author.Needs.{needs}
+use borrow.Author.Tests.{leb-false}
 use lib.Dec.{leb}
-use lib.ListN.{length, take}
+use lib.ListN.{length, take, drop, length-append, length-drop}
 use lib.Seq.{length-take-le}
 use Rattle.protocol.specs.Bytes.{Bytes}
 use Rattle.protocol.proofs.Words.{bytes-take, number-below}
 use Rattle.record.specs.Record.{size, loaded}
 use Rattle.record.proofs.Words.{word-in}
-use Rattle.boundary.specs.Crossing.{Crossed, crossed, turnedAway, crossWrote}
+use Rattle.boundary.specs.Crossing.{Crossed, turnedAway, crossWrote}
 use Rattle.boundary.specs.Told.{outSize}
 use Rattle.boundary_parts.specs.Bounds.{InBounds}
 use Rattle.boundary_parts.proofs.Bounds.{parts-inside}
-use Rattle.totals.specs.Crossing.{receivedOf, writtenOf, askedOf, limit, refuses, totalWrote}
+use Rattle.totals.specs.Crossing.{receivedOf, writtenOf, askedOf, readsOf, limit, refuses, counted, totalWrote}
 use Rattle.totals_taken.specs.Taken.{takesWrote}
 use Rattle.totals_taken.proofs.Laws.{taken-wrote}
-use Rattle.totals_step.specs.Settled.{roomFor, Stands}
-use Rattle.totals_step.proofs.Behind.{settles-wrote}
-use Rattle.totals_step.proofs.Steps.{short-wrote, room-taken, room-takes, stands, other-length, totalled-refused, totalled-taken, stays-below, written-over}
+use Rattle.totals_step.specs.Settled.{roomFor}
+use Rattle.totals_step.proofs.Behind.{reads-beside, settles-wrote}
+use Rattle.totals_step.proofs.Steps.{short-wrote, room-taken, room-takes, stands, other-length, totalled-refused, totalled-taken, stays-below, told}
 use Rattle.totals_step.proofs.total_wrote.Statement.{statement}
 use Rattle.totals_step.proofs.total_wrote.Tie as tie
 
 returns : tie.Need-returns
 unfolding totalWrote
-returns c = other-length _ _ _ _ _ (c .if1 .taken)
+returns c = other-length _ _ _ _ _ (c .before .before .before .before .if1 .taken) (c .before .before .refused .ensures)
 
 -- where the bytes written would pass the largest total, and whether the session takes the report
 module _ (c : tie.After-over-wrote) where
@@ -75,12 +76,13 @@ module _ (c : tie.After-over-wrote) where
 returns-2 : tie.Need-returns-2
 unfolding totalWrote
 returns-2 c =
-    let o = c .before .before .before .before .before in
+    let o = c .before .before .before .before .before .before .before .before .before in
     let a = start o .args in
     let rec = now (a .rec) in
-    ap (λ (l : List ℕ). crossed rec (now (a .rx)) (now (a .msg)) l 5376) (c .before .before .put-three .ensures)
-    ∙ written-over rec (now (a .rx)) (now (a .msg)) (now (a .out)) (receivedOf rec) (writtenOf rec + askedOf rec) (one o .if1 .left) (step o) (taken o)
-    (over o ∙ c .before .before .before .before .if2 .taken)
+    let r = c .before .before .refused2 .ensures in
+    told rec (now (a .rx)) (now (a .msg)) (now (a .out)) (receivedOf rec) (writtenOf rec + askedOf rec) (readsOf rec) (one o .if1 .left) (step o) (leb limit (writtenOf rec + askedOf rec)) (taken o)
+    (over o ∙ c .before .before .before .before .before .before .before .before .if2 .taken) (λ h. rw h (or-true (leb limit (receivedOf rec))))
+    (r .0, r .1 ∙ ap (counted 5376 0) (c .before .before .before .before .before .before .put-three .ensures))
 
 aggregate : tie.Need-slice-aggregate-session-wrote
 aggregate c = sym (length-take-le size (now (start (c .before .before) .args .rec)) (omega arith))
@@ -88,69 +90,83 @@ aggregate c = sym (length-take-le size (now (start (c .before .before) .args .re
 returns-3 : tie.Need-returns-3
 unfolding totalWrote
 returns-3 c =
-    let s = c .before .before .before .before .before .before .before .before .before .before in
+    let s = c .before .before .before .before .before .before .before .before .before .before .before .before .before .before in
     let o = s .before .before .before .before .before .before in
     let a = start o .args in
     let rec = now (a .rec) in
-    totalled-refused rec (now (a .rx)) (now (a .msg)) (now (a .out)) (receivedOf rec) (writtenOf rec + askedOf rec) (one o .if1 .left) (step o) (s .session-wrote .ensures)
-    (sym (c .before .refuses .ensures) ∙ c .if3 .taken)
+    totalled-refused rec (now (a .rx)) (now (a .msg)) (now (a .out)) (receivedOf rec) (writtenOf rec + askedOf rec) (readsOf rec) (one o .if1 .left) (step o) (s .session-wrote .ensures)
+    (sym (c .before .before .before .before .before .refuses .ensures) ∙ c .before .before .before .before .if3 .taken) (c .before .before .refused3 .ensures)
 
--- what was taken leaves the bytes written below the limit
-below : (c : tie.Else3)
-    → (let rec = now (start (c .before .before .before .before .before .before .before .before .before .before .before .before .before .before .before .before) .args .rec) in writtenOf rec + askedOf rec < limit)
-below c =
-    let s = c .before .before .before .before .before .before .before .before .before .before in
-    let left = s .before .before .before .before .before in
-    let o = left .before in
-    let a = start o .args in
-    let rec = now (a .rec) in
-    stays-below rec (now (a .rx)) (now (a .msg)) (now (a .out)) (receivedOf rec) (writtenOf rec + askedOf rec) (one o .if1 .left) (step o) (s .session-wrote .ensures)
-    (writtenOf rec + askedOf rec) (taken o) (over o ∙ left .if2 .left) (sym (c .before .refuses .ensures) ∙ c .if3 .left)
+-- what was taken
+module _ (c : tie.Else3) where
+  abbrev session : tie.After-session-wrote
+  session = c .before .before .before .before .before .before .before .before .before .before
 
--- and had room for its reply
-room : (c : tie.Else3) → outSize ≤ length (now (start (c .before .before .before .before .before .before .before .before .before .before .before .before .before .before .before .before) .args .out))
-room c =
-    let s = c .before .before .before .before .before .before .before .before .before .before in
-    let o = s .before .before .before .before .before .before in
-    let a = start o .args in
-    room-taken (take size (now (a .rec))) (now (a .rx)) (now (a .msg)) (now (a .out)) (step o) (short o) (s .session-wrote .ensures)
-    (sym (c .before .refuses .ensures) ∙ c .if3 .left)
+  abbrev front : tie.After-over-wrote
+  front = session .before .before .before .before .before .before
 
-asked : (c : tie.Else3) → (let t = c .before .before .before .before .before .before .before .before .before .before .session-wrote in Stands (t .result) (t .last .1 .1 .1 .1 .0))
-asked c =
-    let s = c .before .before .before .before .before .before .before .before .before .before in
-    let o = s .before .before .before .before .before .before in
-    stands (now (start o .args .lent)) (step o) (s .session-wrote .ensures) (inside o)
+  untold : refuses (session .session-wrote .result) ≡ false
+  untold = sym (c .before .refuses .ensures) ∙ c .if3 .left
 
-settle-requires : tie.Need-settle-requires
-settle-requires c κs = let h = room (c .before .before .before .before .before .before) in (omega arith, omega (arith, h), asked (c .before .before .before .before .before .before))
+  -- leaves the bytes written below the limit
+  below : writtenOf (now (start front .args .rec)) + askedOf (now (start front .args .rec)) < limit
+  below =
+      let a = start front .args in
+      let rec = now (a .rec) in
+      leb-false limit (writtenOf rec + askedOf rec)
+      (stays-below rec (now (a .rx)) (now (a .msg)) (now (a .out)) (receivedOf rec) (writtenOf rec + askedOf rec) (readsOf rec) (one front .if1 .left) (step front) (session .session-wrote .ensures)
+      (leb limit (writtenOf rec + askedOf rec)) (taken front) (over front ∙ session .before .before .before .before .before .if2 .left) untold)
+
+  -- and had room for its reply
+  room : outSize ≤ length (now (start front .args .out))
+  room =
+      let a = start front .args in
+      room-taken (take size (now (a .rec))) (now (a .rx)) (now (a .msg)) (now (a .out)) (step front) (short front) (session .session-wrote .ensures) untold
+
+  -- its session's bytes
+  sized : length (session .session-wrote .last .0) ≡ size
+  sized = session .session-wrote .kept .0 ∙ length-take-le size (now (start front .args .rec)) (omega (arith, one front .if1 .left))
+
+finish-requires : tie.Need-finish-requires
+finish-requires c κs =
+    let t = c .before .before .before .before .before .before .before .before in
+    let h = room t in
+    let x = session t .session-wrote .last .0 in
+    let rec = now (start (front t) .args .rec) in
+    (omega (arith, c .before .before .before .before .before .before .put-u64 .kept .0, length-append x (drop size rec), length-drop size rec, sized t, one (front t) .if1 .left), omega (arith, h), stands (now (start (front t) .args .lent)) (step (front t)) (session t .session-wrote .ensures) (inside (front t)))
 
 add-written : tie.Need-add-written
 add-written c =
-    let e = sum (c .before .before .before .before .before .before .before .before .before .before .before .before .before .before .before .before) in
+    let e = sum (front c) in
     record { fits = omega (arith, e, below c) }
 
 returns-4 : tie.Need-returns-4
 unfolding totalWrote
 returns-4 c =
-    let p = c .before .before .before .before .before .before .before in
-    let test = p .before .before in
-    let s = test .before .before .before .before .before .before .before .before .before .before in
-    let o = s .before .before .before .before .before .before in
+    let t = c .before .before .before .before .before .before .before .before .before .before .before .before .before in
+    let s = session t in
+    let o = front t in
     let a = start o .args in
     let rec = now (a .rec) in
-    let bytes : Bytes rec = known o in
-    totalled-taken rec (now (a .rx)) (now (a .msg)) (now (a .out)) (receivedOf rec) (writtenOf rec + askedOf rec) (one o .if1 .left) (step o) (s .session-wrote .ensures)
-    (sym (test .before .refuses .ensures) ∙ test .if3 .left) (number-below 8 rec 256 bytes) (below test)
-    (settles-wrote rec (one o .if1 .left) bytes (s .session-wrote .last .0)
-    (s .session-wrote .kept .0 ∙ length-take-le size rec (omega (arith, one o .if1 .left))) _ _ _ _
-    (sum o) (p .put-u64 .ensures) (c .before .before .settle .ensures))
+    let put = c .before .before .before .before .before .before .before .before .before .before .before .put-u64 in
+    let f = c .before .before .before .before .finish .ensures in
+    let x = s .session-wrote .last .0 in
+    let reads : c .before .before .before .before .before .before .before .u64-at3 .result ≡ readsOf rec =
+    c .before .before .before .before .before .before .before .u64-at3 .ensures ∙ word-in (put .last .0) 36 (omega (arith, put .kept .0, length-append x (drop size rec), length-drop size rec, sized t, one o .if1 .left))
+    ∙ reads-beside rec (one o .if1 .left) (known o) x (sized t) (sum o) (put .ensures) in
+    totalled-taken rec (now (a .rx)) (now (a .msg)) (now (a .out)) (receivedOf rec) (writtenOf rec + askedOf rec) (readsOf rec) (one o .if1 .left) (step o) (s .session-wrote .ensures)
+    (untold t) (number-below 8 rec 256 (known o)) (below t) (number-below 8 rec 288 (known o))
+    (settles-wrote rec (one o .if1 .left) (known o) x (sized t) (readsOf rec) _ _ _ _ (sum o) (put .ensures) reads (f .0))
+    reads (f .1)
 
 pub total-wrote-spec : {M : Type 1} → statement M
 total-wrote-spec =
     tie.close
     (tie.spec
+    (λ c κs. search needs)
+    (λ c. search needs)
     returns
+    (λ c κs. search needs)
     (λ c κs. search needs)
     (λ c κs. search needs)
     (λ c κs. search needs)
@@ -162,6 +178,7 @@ total-wrote-spec =
     aggregate
     (λ c κs. search needs)
     (λ c κs. search needs)
+    (λ c κs. search needs)
     (λ c. search needs)
     (λ c. search needs)
     (λ c. search needs)
@@ -169,7 +186,8 @@ total-wrote-spec =
     returns-3
     add-written
     (λ c κs. search needs)
-    settle-requires
+    (λ c κs. search needs)
+    finish-requires
     (λ c. search needs)
     (λ c. search needs)
     (λ c. search needs)

@@ -8,7 +8,7 @@ pub mod program;
 pub mod shelf;
 
 use std::io;
-use yuglasno::{Fault, Link};
+use yuglasno::{Call, Fault, Link};
 
 /// How an incoming stream ends, or what a write comes to.
 #[derive(Clone, Copy, Debug, PartialEq)]
@@ -32,6 +32,10 @@ impl End {
 pub struct Script {
     pub incoming: Vec<u8>,
     pub read: usize,
+    /// Reads that brought bytes.
+    pub brought: u64,
+    /// The calls that are over, each with its reads.
+    pub over: Vec<(String, u64)>,
     pub cut: usize,
     pub end: End,
     pub pieces: Vec<Vec<u8>>,
@@ -42,8 +46,8 @@ pub struct Script {
 
 impl Script {
     pub fn new(incoming: &[u8], cut: usize, end: End) -> Self {
-        let (incoming, pieces) = (incoming.to_vec(), Vec::new());
-        Self { incoming, read: 0, cut, end, pieces, broken: None, close: None, closes: 0 }
+        let (incoming, pieces, over) = (incoming.to_vec(), Vec::new(), Vec::new());
+        Self { incoming, read: 0, brought: 0, over, cut, end, pieces, broken: None, close: None, closes: 0 }
     }
 
     pub fn written(&self) -> Vec<u8> {
@@ -61,6 +65,7 @@ impl Link for Script {
         window[..count].copy_from_slice(&left[..count]);
         window[count..].fill(0xEE);
         self.read += count;
+        self.brought += 1;
         Ok(count)
     }
 
@@ -77,6 +82,10 @@ impl Link for Script {
     fn close(&mut self) -> Result<(), Fault> {
         self.closes += 1;
         self.close.map_or(Ok(()), |end| Err(end.fault()))
+    }
+
+    fn call_over(&mut self, call: &Call<'_>, reads: u64) {
+        self.over.push((call.to_string(), reads));
     }
 }
 

@@ -1,7 +1,11 @@
 //! One crossing of the boundary: the slices lent, the function called, and what must hold of it whatever they were.
 use crate::lent::Lent;
+use crate::model::put;
 use crate::totals::OVERFLOW;
 use yuglasno::raw::{self, RECORD, REPLY};
+
+/// The number of a reply that has the reads, where it tells an answer; it lies behind all that the answer carries.
+pub const COUNT: usize = 14;
 
 #[derive(Clone, Copy, Debug)]
 pub enum Function {
@@ -69,24 +73,42 @@ pub fn fault(before: &Slices, after: &Slices, number: u32) -> Option<&'static st
         return Some("a refused call changed the record or a buffer");
     }
     if before.out.bytes().len() < REPLY || before.rec.bytes().len() != RECORD {
-        let away = number == 3 << 8 && same(|s| &s.out);
+        let away = turned_away(before, after, number);
         return (!away).then_some("a reply too short or a record of another length was not turned away");
     }
     let capacity = after.rx.bytes().len();
     if before.msg.bytes().get(capacity..) != after.msg.bytes().get(capacity..) {
         return Some("the message buffer changed behind any text");
     }
-    if number == 3 << 8 && same(|s| &s.out) {
+    if turned_away(before, after, number) {
         return None;
     }
     if !parts_within(after, number) {
         return Some("the reply names a part outside its slice");
     }
     match written(after, number) {
-        Some(length) if before.out.bytes()[length..] == after.out.bytes()[length..] => None,
+        Some(length) if behind(before, length, number, after) => None,
         Some(_) => Some("the reply changed bytes behind its own"),
         None => Some("no reply that is described"),
     }
+}
+
+/// Whether this is 3 to what holds no session: of the reply only the reads are written, which are 0, where they have room.
+fn turned_away(before: &Slices, after: &Slices, number: u32) -> bool {
+    let mut expected = before.out.bytes().to_vec();
+    if expected.len() >= REPLY {
+        put(&mut expected, COUNT, 0);
+    }
+    number == 3 << 8 && after.out.bytes() == expected
+}
+
+/// Whether the bytes behind a reply of this length are as they were, but for the reads of one that tells an answer.
+fn behind(before: &Slices, length: usize, number: u32, after: &Slices) -> bool {
+    let mut expected = before.out.bytes().to_vec();
+    if number & 255 == 0 {
+        put(&mut expected, COUNT, after.word(COUNT));
+    }
+    after.out.bytes()[length..] == expected[length..]
 }
 
 /// Whether a part that the reply names lies in its slice.
@@ -102,7 +124,7 @@ fn parts_within(s: &Slices, number: u32) -> bool {
     }
 }
 
-/// How many bytes a reply has; none where it is none of those that Told.antt describes.
+/// How many bytes a reply has but for the reads; none where it is none of those that Told.antt describes.
 fn written(s: &Slices, number: u32) -> Option<usize> {
     let small = |i| s.word(i) <= u64::from(u32::MAX);
     let (fits, length) = match (number & 255, number >> 8, s.word(0)) {

@@ -2,9 +2,11 @@
 use crate::crossing::{fault, refused, Function, Slices};
 use crate::index::{self, Beside};
 use crate::lent::Lent;
+use crate::model::word;
 use crate::opening::opened;
 use crate::panel_side;
 use crate::random::Random;
+use crate::reads::Reads;
 use crate::stream::reply;
 use crate::totals::{self, Expected, OVERFLOW};
 use crate::{Counts, ANSWERS};
@@ -23,6 +25,7 @@ pub struct Episode<'c> {
     altered: bool,
     /// Whether little more is to be had of the session: it has ended, or a reply is in the way.
     over: bool,
+    reads: Reads,
     call: u32,
     incoming: Vec<u8>,
     /// An index that is handed the replies of the session, in some of the episodes.
@@ -40,8 +43,8 @@ impl<'c> Episode<'c> {
             totals::far(slices.rec.lend(), &mut random);
         }
         let beside = if random.one_in(4) { Some(Beside::opened(&mut random, counts)?) } else { None };
-        let (asked, altered, over, call, incoming) = (0, false, false, 0, Vec::new());
-        let mut episode = Self { random, counts, slices, ids, asked, altered, over, call, incoming, beside };
+        let (asked, altered, over, reads, call, incoming) = (0, false, false, Reads::default(), 0, Vec::new());
+        let mut episode = Self { random, counts, slices, ids, asked, altered, over, reads, call, incoming, beside };
         for _ in 0..episode.random.below(80) {
             if episode.over && episode.random.one_in(2) {
                 break;
@@ -64,11 +67,11 @@ impl<'c> Episode<'c> {
             _ if self.random.one_in(8) => self.broken(),
             _ => Function::Wrote,
         };
-        let mut number = self.crossed(function)?;
+        let mut number = self.followed(function)?;
         if number == OVERFLOW << 8 {
             // it still waits, and takes a fault
             let fault = self.broken();
-            number = self.crossed(fault)?;
+            number = self.followed(fault)?;
         }
         if !refused(number) {
             self.asked = number & 255;
@@ -81,6 +84,14 @@ impl<'c> Episode<'c> {
             Some(beside) => beside.add(self.counts, number, &self.slices.out, &self.slices.rx),
             None => Ok(()),
         }
+    }
+
+    /// A crossing of the session as the library left it, whose reads are counted beside it.
+    fn followed(&mut self, function: Function) -> Result<u32, String> {
+        let consumed = word(self.slices.rec.bytes(), totals::CONSUMED);
+        let number = self.crossed(function)?;
+        self.reads.follow(function, consumed, number, &self.slices)?;
+        Ok(number)
     }
 
     /// Queries of the index, and replies of any kind for it; now and then on one whose bytes were altered, which then is what it was.
@@ -246,7 +257,7 @@ impl<'c> Episode<'c> {
         Ok(number)
     }
 
-    /// The totals after a crossing, and all else, are what they must be.
+    /// The totals and the reads after a crossing, and all else, are what they must be.
     fn counted(&mut self, before: &Slices, function: Function, number: u32) -> Result<(), String> {
         let Some(expected) = Expected::of(before, function) else { return Ok(()) };
         if number != expected.number || !self.slices.same(&expected.slices) {
@@ -257,6 +268,7 @@ impl<'c> Episode<'c> {
         }
         if refused(number) && expected.no_room {
             self.counts.no_room[number as usize >> 8] += 1;
+            self.counts.no_room_for_reads += u64::from(number == OVERFLOW << 8 && totals::only_reads(before, function));
         }
         Ok(())
     }

@@ -1,8 +1,9 @@
 //! The exported functions under any input: `boundary CALLS SEED`. Sessions are run with random calls and reports; between
 //! their steps, and on copies of them, the functions are called with records, buffers, paths, call numbers, flags and
 //! counts of any value. Settings and ids files are of any kind too, and so are the slots of an index, and the replies that it is handed; and
-//! what a panel says and hears. Totals are of any size, many near 2^64 - 1. Every crossing is checked: see `crossing.rs`, `totals.rs`,
-//! `index.rs` and `panel_side.rs`. Exit status 1 at the first fault, and where a long run did not meet all that it should.
+//! what a panel says and hears. Totals and reads are of any size, many near 2^64 - 1. Every crossing is checked: see `crossing.rs`,
+//! `totals.rs`, `reads.rs`, `index.rs` and `panel_side.rs`. Exit status 1 at the first fault, and where a long run did not meet all that it
+//! should.
 #![forbid(unsafe_code)]
 
 mod crossing;
@@ -14,6 +15,7 @@ mod opening;
 mod panel_model;
 mod panel_side;
 mod random;
+mod reads;
 mod stream;
 mod tables;
 mod totals;
@@ -25,7 +27,7 @@ use std::process::ExitCode;
 
 /// Answers have numbers below this one.
 const ANSWERS: usize = 24;
-/// What a report may be refused with where a total has no room for it.
+/// What a report may be refused with where a total or the reads have no room for it.
 const OF_REPORTS: [usize; 5] = [3, 5, 6, 11, 21];
 /// A run of so many calls meets each of them.
 const LONG: u64 = 100_000;
@@ -37,8 +39,9 @@ pub struct Counts {
     pub opened: u64,
     pub answered: [u64; ANSWERS],
     pub asked: [u64; 6],
-    /// The refusals of reports that a total has no room for, by number.
+    /// The refusals of reports that a total or the reads have no room for, by number; and those that only the reads have none for.
     pub no_room: [u64; ANSWERS],
+    pub no_room_for_reads: u64,
     /// Calls on a record that was altered.
     pub altered: u64,
     /// Calls of an index.
@@ -65,13 +68,22 @@ fn main() -> ExitCode {
         }
     }
     print(&counts, seed);
-    match OF_REPORTS.into_iter().find(|number| counts.no_room[*number] == 0) {
-        Some(number) if calls >= LONG => {
-            println!("boundary: seed {seed}: no report that a total has no room for was answered {number}");
+    match unmet(&counts) {
+        Some(what) if calls >= LONG => {
+            println!("boundary: seed {seed}: {what}");
             ExitCode::from(1)
         }
         _ => ExitCode::SUCCESS,
     }
+}
+
+/// What a long run meets and this one did not.
+fn unmet(counts: &Counts) -> Option<String> {
+    if counts.no_room_for_reads == 0 {
+        return Some("no read that only the count of reads has no room for was answered 21".into());
+    }
+    let number = OF_REPORTS.into_iter().find(|number| counts.no_room[*number] == 0)?;
+    Some(format!("no report that there is no room for was answered {number}"))
 }
 
 /// Each number that was met, and how often.
@@ -83,7 +95,11 @@ fn met(numbers: &[u64]) -> String {
 fn print(counts: &Counts, seed: u64) {
     let sum = |numbers: &[u64]| numbers.iter().sum::<u64>();
     println!("answers by number: {}", met(&counts.answered));
-    println!("of reports that a total has no room for: {}", met(&counts.no_room));
+    println!(
+        "of reports that a total or the reads have no room for: {}; only the reads, of 21: {}",
+        met(&counts.no_room),
+        counts.no_room_for_reads
+    );
     println!(
         "on records that were altered: {} calls; of an index: {} calls; of replies spoken and requests heard: {} calls",
         counts.altered, counts.indexed, counts.of_the_panel

@@ -30,7 +30,7 @@ options:
   --features LIST                   the panel's features, such as stat_v2,ls_v2,sendrecv_v2, where it does not say them
   --ids FILE                        the ids of the panel's messages, where they are not the published ones (below)
   --capacity N                      the receive buffer's length (65544 takes every DATA message)
-  --card                            as the last line, the bytes that were received, consumed and written (below)
+  --card                            as the last line, the bytes that were received, consumed and written, and the most reads of a call (below)
   --timeout SECONDS                 the longest wait for a connection, a read or a write, over --server or --unix; status 13 then
   --help, --version                 this text; the program's version
 
@@ -47,7 +47,10 @@ below DIR (73). 69 where DIR is not there, 66 where a list of it can't be read, 
 
 --card tells the bytes on the cable, headers and all, with any command and where it fails too: what came of the panel, what of that was used or
 dropped, what was written to it, QUIT included. Where archive has opened more than one session, each is the sum of them, and their number is
-told. It goes where the command's lines go; behind a failure it comes after the message. Wrong words (64) and a signal have none.
+told. Behind that stand the most reads that one call took until it was over, and the first call that took so many, with its path where it has
+one: stat and stat_v2 look at a file, next_entry and next_entry_v2 bring an entry of a listing, recv_next a chunk of a pull, send_done ends a
+push. A read that fails is not counted. The line goes where the command's lines go; behind a failure it comes after the message. Wrong words
+(64) and a signal have none.
 
 A, B and T are Unix seconds, such as 892000000 or -5, or UTC: 1998-04-12, 1998-04-12T12:30 or 1998-04-12T12:30:59, also with a blank for
 the T. A is the first second of such a day or minute, B and T are its last: --from 1998-04-12 --to 1998-04-12 is that day. Either of A and

@@ -1,6 +1,6 @@
 //! The panel of a run: its place, and a session there, which may be opened anew where a FAIL has ended it.
 use crate::arguments::{Place, Plan};
-use crate::card::Counted;
+use crate::card::{watched, Counted};
 use crate::peer::Peer;
 use crate::place::{self, Reached};
 use crate::stop::Stop;
@@ -14,13 +14,14 @@ pub const ERRNO: u8 = 16;
 
 pub struct Panel<'p> {
     plan: &'p Plan,
-    place: Reached,
+    place: Reached<'p>,
     counted: Counted<'p>,
 }
 
 impl<'p> Panel<'p> {
     pub fn opened(plan: &'p Plan) -> Result<Self, Stop> {
-        let place = place::reached(plan)?;
+        let mut place = place::reached(plan)?;
+        place.link = watched(place.link, plan.card.as_ref());
         let (rx, msg) = (vec![0; plan.capacity], vec![0; plan.capacity]);
         let session = Session::open_with(&plan.settings, &place.banner, rx, msg)?;
         Ok(Self { plan, place, counted: Counted::new(session, plan.card.as_ref()) })

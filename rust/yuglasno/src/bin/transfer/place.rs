@@ -12,14 +12,14 @@ use yuglasno::adb::{Address, Channel, Server};
 use yuglasno::panel::Panel;
 use yuglasno::{Link, Pair};
 
-pub struct Reached {
-    pub link: Box<dyn Link>,
+pub struct Reached<'p> {
+    pub link: Box<dyn Link + 'p>,
     pub banner: Vec<u8>,
     child: Option<Child>,
 }
 
-impl Reached {
-    fn new(link: impl Link + 'static, banner: Vec<u8>) -> Self {
+impl<'p> Reached<'p> {
+    fn new(link: impl Link + 'p, banner: Vec<u8>) -> Self {
         Self { link: Box::new(link), banner, child: None }
     }
 
@@ -43,7 +43,7 @@ impl Reached {
 /// How long a program has to end once its channel is closed.
 const LAST_WAIT: Duration = Duration::from_secs(5);
 
-pub fn reached(plan: &Plan) -> Result<Reached, Stop> {
+pub fn reached(plan: &Plan) -> Result<Reached<'_>, Stop> {
     let given = || banner_of(plan.features.as_deref().unwrap_or_default());
     match &plan.place {
         Place::Server { address, serial, timeout } => {
@@ -61,7 +61,7 @@ pub fn reached(plan: &Plan) -> Result<Reached, Stop> {
 }
 
 /// A panel in this program, under the ids that were given.
-fn here(panel: Panel, cut: Option<usize>, plan: &Plan) -> Reached {
+fn here(panel: Panel, cut: Option<usize>, plan: &Plan) -> Reached<'_> {
     let banner = plan.features.as_deref().map_or(Panel::BANNER.to_vec(), banner_of);
     Reached::new(panel.with_ids(plan.settings.ids()).cut(cut.unwrap_or(usize::MAX)), banner)
 }
@@ -83,12 +83,12 @@ fn server(address: Option<&Address>, serial: Option<&str>, timeout: Option<Durat
     })
 }
 
-fn unix(path: &Path, timeout: Option<Duration>, banner: Vec<u8>) -> Result<Reached, Stop> {
+fn unix(path: &Path, timeout: Option<Duration>, banner: Vec<u8>) -> Result<Reached<'static>, Stop> {
     let channel = Channel::to_socket(path, timeout).map_err(|e| Stop::unreached(path.display(), &e))?;
     Ok(Reached::new(channel, banner))
 }
 
-fn exec(words: &[OsString], banner: Vec<u8>) -> Result<Reached, Stop> {
+fn exec(words: &[OsString], banner: Vec<u8>) -> Result<Reached<'static>, Stop> {
     let program = &words[0];
     let cannot = |why: &dyn std::fmt::Display| Stop::new(UNAVAILABLE, program.display(), why);
     let mut command = Command::new(program);

@@ -1,0 +1,4 @@
+pub mod Turns
+pub mod Counted
+pub mod Claims
+pub mod Facts
