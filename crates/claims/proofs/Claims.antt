@@ -120,6 +120,7 @@ use Rattle.totals.specs.Claim.{totalSteps, MisuseClaim, CountTold}
 use Rattle.totals.specs.Crossing.{limit, totalOpen}
 use Rattle.totals.specs.Facts as CardFacts
 use Rattle.totals.specs.Logged.{CardLogged, SideCards}
+use Rattle.totals.specs.Replied.{ReadsTold, SideTold}
 use Rattle.totals.specs.System.{totals}
 use Rattle.totals.proofs.Card as Card
 use Rattle.totals.proofs.Carried as Carried
@@ -127,6 +128,7 @@ use Rattle.totals.proofs.Claim as Misuse
 use Rattle.totals.proofs.Facts as CardRows
 use Rattle.totals.proofs.Layer as Layer
 use Rattle.totals.proofs.Logged as Logged
+use Rattle.totals.proofs.Replied as Replied
 use Rattle.time_index.specs.Claim.{IndexClaim}
 use Rattle.time_index.specs.Facts as IndexFacts
 use Rattle.time_index.specs.Logged.{LoggedClaim}
@@ -163,6 +165,15 @@ every-read = Carried.every-read-totals
 -- ... of a side of demand 3, in one list
 pub side-reads : SideReads (below limit) totals
 side-reads = Carried.side-reads-totals
+
+-- "Carry in each finished call's answer how many reads it accepted, one that reports an error not counted": the reads in the last reply of each call are those that
+-- the log has of it, of a refused call none (totals/specs/Replied)
+pub reads-told : ReadsTold
+reads-told = Replied.reads-told
+
+-- ... "equal to the count in the reader's definition under the given read lengths": of a side of demand 3, in one list
+pub side-told : SideTold
+side-told = Replied.side-told
 
 -- files of ids: every table's loads, no other does, and what is loaded or lent is what a session keeps (id_table/specs/Claim)
 pub id-tables : IdTables

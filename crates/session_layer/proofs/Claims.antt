@@ -67,16 +67,21 @@ narrower W′ W S f every o x rx msg p least room wide h z lends qs v incoming b
     every o x rx msg p least room wide h z lends qs v incoming b (f _ _ within)
 
 module _ {Y X : Type 0} (limit : ℕ) (T : System Y) (S : System X) (R : Account → Show → Y → X → Type 0) (A : Around limit T S R) where
+  -- its log is that of the system inside, where this is the plain reader's
+  pub same-log : (o : Opening) (y : Y) (rx msg : List ℕ) → T .place y → (h : Host) → ((w : World) → T .lends (h .spare w)) → (qs : List Call) (incoming : List ℕ)
+      → Within (below limit) (reader o (length rx) (h .close)) qs incoming → S .opened (A .inner y) o rx msg .number ≡ 0
+      → Faithful (reader o (length rx) (h .close)) (h .end) qs incoming (logOf (S .engine) h qs (atStart incoming) (S .opened (A .inner y) o rx msg .x) rx msg)
+      → logOf (T .engine) h qs (atStart incoming) (T .opened y o rx msg .x) rx msg ≡ logOf (S .engine) h qs (atStart incoming) (S .opened (A .inner y) o rx msg .x) rx msg
+  same-log o y rx msg p h lends qs incoming k z f =
+      let g : Config = reader o (length rx) (h .close) in
+      log-same limit (T .engine) (S .engine) (T .lends) R (A .layer) h lends qs (atOpening incoming) (atStart incoming) done _ _ rx msg refl
+      (A .opens y p o rx msg incoming z (k .0))
+      (log-ends (h .end) g qs incoming _ f, (omega (arith, log-below (h .end) g qs incoming _ f), log-unasked (h .end) g qs incoming _ f))
+
   pub carried : (W : Bound) → ((m n : ℕ) → W m n → below limit m n) → EveryHost W S → EveryHost W T
   carried W keeps every o y rx msg p least room wide h z lends qs v incoming b within =
       let x = every o (A .inner y) rx msg (A .place y p) least room wide h z (λ w. A .lends (h .spare w) (lends w)) qs v incoming b within in
-      let g : Config = reader o (length rx) (h .close) in
-      let k : below limit (length incoming) (length (plainWrites g qs)) = keeps _ _ within in (
-        A .number y p o rx msg ∙ x .0,
-        rw (log-same limit (T .engine) (S .engine) (T .lends) R (A .layer) h lends qs (atOpening incoming) (atStart incoming) done _ _ rx msg refl
-            (A .opens y p o rx msg incoming (x .0) (k .0))
-            (log-ends (h .end) g qs incoming _ (x .1), (omega (arith, log-below (h .end) g qs incoming _ (x .1)), log-unasked (h .end) g qs incoming _ (x .1)))) (x .1),
-      )
+      (A .number y p o rx msg ∙ x .0, rw (same-log o y rx msg p h lends qs incoming (keeps _ _ within) (x .0) (x .1)) (x .1))
 
   -- .. and what stands in the layer when each call is over; P is what is known of a session inside from which every list of calls is the plain reader's
   pub carried-at : EveryHost unbounded S → (P : X → List ℕ → Type 0) → (o : Opening) (y : Y) (rx msg : List ℕ) → T .place y → 8 ≤ length rx → length rx ≤ length msg → length msg < 2 ^ 63
@@ -94,7 +99,6 @@ module _ {Y X : Type 0} (limit : ℕ) (T : System Y) (S : System X) (R : Account
       let t : 0 + total (logOf (S .engine) h qs (atStart incoming) (S .opened (A .inner y) o rx msg .x) rx msg) < limit = omega (arith, log-below (h .end) g qs incoming _ (x .1)) in
       let n = log-ends (h .end) g qs incoming _ (x .1) in
       let u = log-unasked (h .end) g qs incoming _ (x .1) in
-      rw (log-same limit (T .engine) (S .engine) (T .lends) R (A .layer) h lends qs (atOpening incoming) (atStart incoming) done _ _ rx msg refl
-      (A .opens y p o rx msg incoming (x .0) (k .0)) (n, (t, u)))
+      rw (same-log o y rx msg p h lends qs incoming k (x .0) (x .1))
       (log-at limit (T .engine) (S .engine) (T .lends) R (A .layer) h lends P stands qs v g incoming (atOpening incoming) (atStart incoming) done _ _ rx msg refl
       (A .opens y p o rx msg incoming (x .0) (k .0)) (λ qs′ v′. all qs′ v′ .1) (n, (t, u)))

@@ -1,5 +1,5 @@
 -- The exported functions are a layer around the session: each step is the step of the session inside, as long as fewer bytes than the limit come
--- and are written. So what is claimed against every host, and demand 3, hold of them.
+-- and are written; and the reads stand in a reply. So what is claimed against every host, and demand 3, hold of them.
 -- Assumes nothing.
 use Prim.Native.Nat.{ℕ, _+_, _-_, _%_, _≤_, _<_}
 use mathlib.Core.Bool.{Bool, true, false, _&&_, _||_, not}
@@ -17,19 +17,21 @@ use Rattle.id_table.specs.Settings.{settingsOf}
 use Rattle.record.specs.Record.{words, wordOf, size}
 use Rattle.session.specs.Demand3.{Opening, unbounded, below, Claim}
 use Rattle.session.specs.EveryHost.{EveryHost}
-use Rattle.session.specs.Host.{Show, told, read, writeRx, writeLent, writeBytes, close, Step, lentOf}
+use Rattle.session.specs.Host.{Show, told, read, writeRx, writeLent, writeBytes, close, lentOf}
 use Rattle.session.proofs.Demand3.{claimed}
-use Rattle.session_layer.specs.Layer.{asked, Writes, tellsRefusal, Account, starting, reading, writing, Alike, Layer, Around, atOpening}
+use Rattle.session_layer.specs.Layer.{asked, Writes, Asks, tellsRefusal, Account, starting, reading, writing, under, Alike, Layer, Around, atOpening}
 use Rattle.session_layer.proofs.Claims.{narrower, carried}
 use Rattle.boundary.specs.Boundary.{callNumber, firstNumber, flagNumber, endKind, endCode, stepOf, recorded, boundary}
 use Rattle.boundary.specs.Crossing.{Crossed, OpenCrossed, crossOpen}
 use Rattle.boundary.specs.Heard.{heard}
+use Rattle.boundary.specs.Told.{outSize}
 use Rattle.boundary.proofs.Demand3.{every-host}
 use Rattle.boundary_misuse.specs.Misuse.{Act, start, report, hasRead, wrote, fault, Event, acted}
+use Rattle.totals.specs.Card.{countIn}
 use Rattle.totals.specs.Crossing.{recordSize, receivedOf, consumedOf, writtenOf, askedOf, readsOf, limit, refuses, pieceAsked, totalling, withTotals, overflowing, totalled, onRecord, openTotals, totalOpen, totalStart, totalRead, totalWrote, totalFault}
-use Rattle.totals.specs.System.{counting, totals}
+use Rattle.totals.specs.System.{stepBy, engineBy, counting, totals}
 use Rattle.totals.proofs.Behind.{heldOf, totalling-is, whole-size, whole-inner, whole-own, whole-received, whole-consumed, whole-written, whole-asked, whole-reads, in-front}
-use Rattle.totals.proofs.Beside.{heard-counted}
+use Rattle.totals.proofs.Beside.{heard-counted, counted-at, out-kept}
 use Rattle.totals.proofs.Refused.{heard-refused}
 use Rattle.totals.proofs.Sizes.{Sized, acted-sized, open-size}
 
@@ -49,6 +51,18 @@ told-refused : (n : ℕ) (out rx msg : List ℕ) → n % 256 ≡ 0 → Writes (h
 unfolding heard
 told-refused n out rx msg e = rw (eq-eqb (n % 256) 0 e) (λ w. w)
 
+-- where nothing is asked an answer is told
+tells-number : (n : ℕ) (out rx msg : List ℕ) → (Asks (heard n out rx msg) → ⊥) → n % 256 ≡ 0
+unfolding heard
+tells-number n out rx msg =
+    pick-cases S (eqb (n % 256) 0) (λ e _. eqb-true (n % 256) 0 e)
+    (λ _. pick-cases S (eqb (n % 256) 1) (λ _ f. absurd (f tt))
+    (λ _. pick-cases S (eqb (n % 256) 2) (λ _ f. absurd (f tt))
+    (λ _. pick-cases S (eqb (n % 256) 3) (λ _ f. absurd (f tt)) (λ _. pick-cases S (eqb (n % 256) 4) (λ _ f. absurd (f tt)) (λ _ f. absurd (f tt))))))
+  where
+    S : Show → Type 0
+    S sh = (Asks sh → ⊥) → n % 256 ≡ 0
+
 -- the totals and the reads are below the limit
 pub fitting : (b : Bool) (r n k : ℕ) (o s : Crossed) → r < limit → n < limit → k < limit → pick (b && (leb limit r || (leb limit n || leb limit k))) o s ≡ s
 fitting true r n k o s p q z = rw (lt-leb limit r p, lt-leb limit n q, lt-leb limit k z)
@@ -65,6 +79,10 @@ pub record Keeps (l : Account) (sh : Show) (y x : List ℕ) : Type 0 where
   -- no more reads than bytes
   pub reads : l .reads ≤ l .received
   pub recalls : Writes sh → a ≡ asked sh
+
+-- an answer carries the reads that the account has, a refusal none
+abbrev pub Tells : Account → Show → Crossed → Type 0
+Tells l sh c = (Asks sh → ⊥) → countIn c ≡ pick (tellsRefusal sh) 0 (l .reads)
 
 -- ---- a step
 
@@ -103,8 +121,8 @@ module _ (l : Account) (sh : Show) (y x : List ℕ) (k : Keeps l sh y x) where
       ap consumedOf (k .is ∙ totalling-is x (l .received) (l .written) (k .a) (l .reads) h i)
       ∙ whole-consumed x (k .sized) (l .received) (l .received - heldOf x) (l .written) (k .a) (l .reads) (omega (arith, k .all, k .few))
 
-  -- c is the step inside
-  module _ (c : Crossed) (e : Sized x c) (rx msg out : List ℕ) where
+  -- c is the step inside, in a slice that holds a reply
+  module _ (c : Crossed) (e : Sized x c) (room : outSize ≤ length (c .out)) (rx msg out : List ℕ) where
     abbrev says : Show
     says = heard (c .number) (c .out) (c .rx) (c .msg)
 
@@ -116,9 +134,6 @@ module _ (l : Account) (sh : Show) (y x : List ℕ) (k : Keeps l sh y x) where
         (reads : l′ .reads ≤ l′ .received) where
       abbrev kept : Bool → List ℕ
       kept b = pick b (c .rec ++ drop size y) (totalling (c .rec) r′ n′ (pieceAsked says (askedOf y)) i′)
-
-      abbrev shown : Show → Step (List ℕ)
-      shown sh = record { x = kept (refuses (c .number)); rx = c .rx; msg = c .msg; show = sh }
 
       put-behind : refuses (c .number) ≡ false → r′ ≡ l′ .received → n′ ≡ l′ .written → i′ ≡ l′ .reads → Keeps l′ says (kept (refuses (c .number))) (c .rec)
       put-behind f p q r =
@@ -133,22 +148,36 @@ module _ (l : Account) (sh : Show) (y x : List ℕ) (k : Keeps l sh y x) where
             recalls = asks-same says (askedOf y);
           }
 
-      settled-alike : Keeps l′ says (kept (refuses (c .number))) (c .rec) → Alike Keeps l′ (stepOf (onRecord y rx msg out (withTotals y r′ n′ i′ c))) (stepOf c)
-      settled-alike keeps =
-          let on : onRecord y rx msg out (withTotals y r′ n′ i′ c) ≡ withTotals y r′ n′ i′ c = rw (eq-eqb (length y) recordSize here-size) in
-          let same : stepOf (withTotals y r′ n′ i′ c) ≡ shown says = ap shown (heard-counted (c .number) (pick (refuses (c .number)) 0 i′) (c .out) (c .rx) (c .msg)) in
-          (kept (refuses (c .number)), (ap stepOf on ∙ same, keeps))
+      tells-count : i′ < limit → pick (refuses (c .number)) 0 i′ ≡ pick (refuses (c .number)) 0 (l′ .reads) → Tells l′ says (withTotals y r′ n′ i′ c)
+      tells-count h same f =
+          let k : ℕ = pick (refuses (c .number)) 0 i′ in
+          let fits : k < limit = pick-cases (λ (j : ℕ). j < limit) (refuses (c .number)) (λ _. omega arith) (λ _. h) in
+          counted-at (c .number) k (c .out) fits (tells-number (c .number) (c .out) (c .rx) (c .msg) f) room ∙ same
+          ∙ ap (λ (b : Bool). pick b 0 (l′ .reads)) (sym says-refused)
 
-      -- a report that the session does not refuse
-      reported-alike : tellsRefusal says ≡ false → r′ ≡ l′ .received → n′ ≡ l′ .written → i′ ≡ l′ .reads
-          → Alike Keeps l′ (stepOf (onRecord y rx msg out (withTotals y r′ n′ i′ c))) (stepOf c)
-      reported-alike z p q r = settled-alike (put-behind (sym says-refused ∙ z) p q r)
+      -- an engine keeps this of it
+      module _ {Y : Type 0} (keeping : Crossed → Y) (R : Account → Show → Y → List ℕ → Type 0)
+          (makes : (l : Account) (sh : Show) (c : Crossed) (x : List ℕ) → Keeps l sh (c .rec) x → Tells l sh c → R l sh (keeping c) x) where
+        settled-alike : Keeps l′ says (kept (refuses (c .number))) (c .rec) → Tells l′ says (withTotals y r′ n′ i′ c)
+            → Alike R l′ (stepBy keeping (onRecord y rx msg out (withTotals y r′ n′ i′ c))) (stepOf c)
+        settled-alike keeps tells =
+            let C : Crossed = withTotals y r′ n′ i′ c in
+            let on : onRecord y rx msg out C ≡ C = rw (eq-eqb (length y) recordSize here-size) in
+            let same : stepBy keeping C ≡ under (keeping C) (stepOf c) =
+            ap (λ (sh : Show). record { x = keeping C; rx = c .rx; msg = c .msg; show = sh }) (heard-counted (c .number) (pick (refuses (c .number)) 0 i′) (c .out) (c .rx) (c .msg)) in
+            (keeping C, (ap (stepBy keeping) on ∙ same, makes l′ says C (c .rec) keeps tells))
 
-      totalled-alike : tellsRefusal says ≡ false → r′ ≡ l′ .received → n′ ≡ l′ .written → i′ ≡ l′ .reads
-          → Alike Keeps l′ (stepOf (onRecord y rx msg out (totalled y rx msg out r′ n′ i′ c))) (stepOf c)
-      totalled-alike z p q r =
-          rw (fitting (not (refuses (c .number))) r′ n′ i′ (overflowing y rx msg out) (withTotals y r′ n′ i′ c) (omega (arith, p, all, few)) (omega (arith, q)) (omega (arith, r, reads, all, few)))
-          (reported-alike z p q r)
+        -- a report that the session does not refuse
+        reported-alike : tellsRefusal says ≡ false → r′ ≡ l′ .received → n′ ≡ l′ .written → i′ ≡ l′ .reads
+            → Alike R l′ (stepBy keeping (onRecord y rx msg out (withTotals y r′ n′ i′ c))) (stepOf c)
+        reported-alike z p q r =
+            settled-alike (put-behind (sym says-refused ∙ z) p q r) (tells-count (omega (arith, r, reads, all, few)) (ap (pick (refuses (c .number)) 0) r))
+
+        totalled-alike : tellsRefusal says ≡ false → r′ ≡ l′ .received → n′ ≡ l′ .written → i′ ≡ l′ .reads
+            → Alike R l′ (stepBy keeping (onRecord y rx msg out (totalled y rx msg out r′ n′ i′ c))) (stepOf c)
+        totalled-alike z p q r =
+            rw (fitting (not (refuses (c .number))) r′ n′ i′ (overflowing y rx msg out) (withTotals y r′ n′ i′ c) (omega (arith, p, all, few)) (omega (arith, q)) (omega (arith, r, reads, all, few)))
+            (reported-alike z p q r)
 
     -- a call: refused, all stays as it was; else it begins with no reads
     start-keeps : (b : Bool) → refuses (c .number) ≡ b
@@ -178,6 +207,10 @@ module _ (l : Account) (sh : Show) (y x : List ℕ) (k : Keeps l sh y x) where
           recalls = asks-same says (askedOf y);
         }
 
+    start-reads : (b : Bool) → refuses (c .number) ≡ b → pick b 0 0 ≡ pick b 0 (starting says l .reads)
+    start-reads true f = refl
+    start-reads false f = rw (says-refused ∙ f) refl
+
 -- ---- the layer
 
 -- a step of the session inside
@@ -187,33 +220,57 @@ made rx msg lent out a = record { act = a; lent = lent; rx = rx; msg = msg; out 
 inside : (x rx msg lent out : List ℕ) → length x ≡ size → (a : Act) → Sized x (acted x (made rx msg lent out a) a)
 inside x rx msg lent out l a = acted-sized x l (made rx msg lent out a) a
 
+-- .. in a slice as long as the one that was lent
+roomy : (x rx msg lent out : List ℕ) → outSize ≤ length out → (a : Act) → outSize ≤ length (acted x (made rx msg lent out a) a .out)
+roomy x rx msg lent out h a = omega (arith, out-kept x (made rx msg lent out a) a)
+
+-- an engine that keeps any part of a crossing: its relation has the record's in it, and follows from that and the reads in the reply
+module _ {Y : Type 0} (recordIn : Y → List ℕ) (keeping : Crossed → Y) (R : Account → Show → Y → List ℕ → Type 0)
+    (finds : (l : Account) (sh : Show) (y : Y) (x : List ℕ) → R l sh y x → Keeps l sh (recordIn y) x)
+    (makes : (l : Account) (sh : Show) (c : Crossed) (x : List ℕ) → Keeps l sh (c .rec) x → Tells l sh c → R l sh (keeping c) x) where
+  pub engine-layer : Layer limit (engineBy recordIn keeping) recorded (totals .lends) R
+  unfolding totalStart totalRead totalWrote totalFault
+  engine-layer =
+      record {
+        holds = λ l sh y x f rx. let k = finds l sh y x f in rw (here-word l sh (recordIn y) x k 2 (omega arith), here-word l sh (recordIn y) x k 3 (omega arith));
+        tail = λ l sh y x f. here-word l sh (recordIn y) x (finds l sh y x f) 3 (omega arith);
+        start = λ l a y x f rx msg q z (room, _).
+            let k = finds l (told a) y x f in
+            let rec : List ℕ = recordIn y in
+            let i : Act = start (callNumber q) (firstNumber z q) (flagNumber z q) in
+            let c : Crossed = acted x (made rx msg (lentOf z q) (z .out) i) i in
+            let e = inside x rx msg (lentOf z q) (z .out) (k .sized) i in
+            let h = roomy x rx msg (lentOf z q) (z .out) room i in
+            let s = start-keeps l (told a) rec x k c e h rx msg (z .out) (refuses (c .number)) refl in
+            let n = start-reads l (told a) rec x k c e h rx msg (z .out) (refuses (c .number)) refl in
+            rw (here-inner l (told a) rec x k, here-received l (told a) rec x k, here-written l (told a) rec x k)
+            (settled-alike l (told a) rec x k c e h rx msg (z .out) (starting (stepOf c .show) l) (l .received) (l .written) 0 (s .all) (s .few) (s .below) (s .reads) keeping R makes s
+            (tells-count l (told a) rec x k c e h rx msg (z .out) (starting (stepOf c .show) l) (l .received) (l .written) 0 (s .all) (s .few) (s .below) (s .reads) (omega arith) n));
+        onRead = λ l at len y x f rx msg lent i z (room, _) p q b n.
+            let k = finds l (read at len) y x f in
+            let rec : List ℕ = recordIn y in
+            rw (here-inner l (read at len) rec x k, here-received l (read at len) rec x k, here-written l (read at len) rec x k, here-reads l (read at len) rec x k)
+            (totalled-alike l (read at len) rec x k _ (inside x rx msg lent (z .out) (k .sized) (report (hasRead i))) (roomy x rx msg lent (z .out) room (report (hasRead i))) rx msg (z .out)
+            (reading i l) (l .received + i) (l .written) (l .reads + 1) (omega (arith, k .all, length-drop i (l .left))) (k .few) (k .below) (omega (arith, k .reads)) keeping R makes n refl refl refl);
+        onWrote = λ l sh y x f w g rx msg lent z (room, _) n.
+            let k = finds l sh y x f in
+            let rec : List ℕ = recordIn y in
+            let a : k .a ≡ asked sh = k .recalls w in
+            let b : askedOf rec ≡ k .a = here-asked l sh rec x k (omega arith) in
+            rw (here-inner l sh rec x k, here-received l sh rec x k, here-written l sh rec x k, here-reads l sh rec x k)
+            (totalled-alike l sh rec x k _ (inside x rx msg lent (z .out) (k .sized) (report wrote)) (roomy x rx msg lent (z .out) room (report wrote)) rx msg (z .out)
+            (writing (asked sh) l) (l .received) (l .written + askedOf rec) (l .reads) (k .all) (k .few) g (k .reads) keeping R makes n refl (omega arith) refl);
+        onFault = λ l sh y x f w rx msg lent e z (room, _) n.
+            let k = finds l sh y x f in
+            let rec : List ℕ = recordIn y in
+            let i : Act = report (fault (endKind z e) (endCode z e)) in
+            rw (here-inner l sh rec x k, here-received l sh rec x k, here-written l sh rec x k, here-reads l sh rec x k)
+            (reported-alike l sh rec x k _ (inside x rx msg lent (z .out) (k .sized) i) (roomy x rx msg lent (z .out) room i) rx msg (z .out)
+            l (l .received) (l .written) (l .reads) (k .all) (k .few) (k .below) (k .reads) keeping R makes n refl refl refl);
+      }
+
 pub totals-layer : Layer limit counting recorded (totals .lends) Keeps
-unfolding totalStart totalRead totalWrote totalFault
-totals-layer =
-    record {
-      holds = λ l sh y x k rx. rw (here-word l sh y x k 2 (omega arith), here-word l sh y x k 3 (omega arith));
-      tail = λ l sh y x k. here-word l sh y x k 3 (omega arith);
-      start = λ l a y x k rx msg q z _.
-          let c : Crossed = acted x (made rx msg (lentOf z q) (z .out) (start (callNumber q) (firstNumber z q) (flagNumber z q))) (start (callNumber q) (firstNumber z q) (flagNumber z q)) in
-          let e = inside x rx msg (lentOf z q) (z .out) (k .sized) (start (callNumber q) (firstNumber z q) (flagNumber z q)) in
-          let s = start-keeps l (told a) y x k c e rx msg (z .out) (refuses (c .number)) refl in
-          rw (here-inner l (told a) y x k, here-received l (told a) y x k, here-written l (told a) y x k)
-          (settled-alike l (told a) y x k c e rx msg (z .out) (starting (stepOf c .show) l) (l .received) (l .written) 0 (s .all) (s .few) (s .below) (s .reads) s);
-      onRead = λ l at len y x k rx msg lent i z _ p q b n.
-          rw (here-inner l (read at len) y x k, here-received l (read at len) y x k, here-written l (read at len) y x k, here-reads l (read at len) y x k)
-          (totalled-alike l (read at len) y x k _ (inside x rx msg lent (z .out) (k .sized) (report (hasRead i))) rx msg (z .out) (reading i l) (l .received + i) (l .written) (l .reads + 1)
-          (omega (arith, k .all, length-drop i (l .left))) (k .few) (k .below) (omega (arith, k .reads)) n refl refl refl);
-      onWrote = λ l sh y x k w f rx msg lent z _ n.
-          let a : k .a ≡ asked sh = k .recalls w in
-          let b : askedOf y ≡ k .a = here-asked l sh y x k (omega arith) in
-          rw (here-inner l sh y x k, here-received l sh y x k, here-written l sh y x k, here-reads l sh y x k)
-          (totalled-alike l sh y x k _ (inside x rx msg lent (z .out) (k .sized) (report wrote)) rx msg (z .out) (writing (asked sh) l) (l .received) (l .written + askedOf y) (l .reads)
-          (k .all) (k .few) f (k .reads) n refl (omega arith) refl);
-      onFault = λ l sh y x k w rx msg lent e z _ n.
-          rw (here-inner l sh y x k, here-received l sh y x k, here-written l sh y x k, here-reads l sh y x k)
-          (reported-alike l sh y x k _ (inside x rx msg lent (z .out) (k .sized) (report (fault (endKind z e) (endCode z e)))) rx msg (z .out) l (l .received) (l .written) (l .reads)
-          (k .all) (k .few) (k .below) (k .reads) n refl refl refl);
-    }
+totals-layer = engine-layer (λ rec. rec) (λ c. c .rec) Keeps (λ l sh y x k. k) (λ l sh c x k t. k)
 
 -- ---- opening
 

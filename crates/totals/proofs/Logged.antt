@@ -8,11 +8,11 @@ use lib.ListN.{length, length-append}
 use Rattle.protocol.specs.Answers.{End}
 use Rattle.protocol.specs.Bytes.{pick}
 use Rattle.protocol.specs.Calls.{Call}
-use Rattle.protocol.specs.Reader.{Config, accepted, writes, configAfter, plainCall}
+use Rattle.protocol.specs.Reader.{Config, Report, accepted, writes, configAfter, plainCall}
 use Rattle.record.specs.Record.{wordOf}
 use Rattle.recv_buf.specs.RecvBuf.{cursor, heldBytes}
 use Rattle.recv_buf.proofs.Laws.{held-length}
-use Rattle.session.specs.Demand3.{CodedFault, CodedReport, logFrom, ReadsAt, reader}
+use Rattle.session.specs.Demand3.{Side, CodedFault, CodedReport, logFrom, ReadsAt, reader}
 use Rattle.session.specs.EveryHost.{CodedHost}
 use Rattle.session.specs.Host.{told, Entry, atStart, logOf}
 use Rattle.session.proofs.Accepts.{log-accepts}
@@ -87,10 +87,13 @@ cards-plain e g (q ∷ qs) m v w r n k (x ∷ es) (rec ∷ recs) i (reads, (wrot
     let rest : shownBy recs ≡ plainCards (configAfter g q) e qs m (x .unread) (w ++ writes g q) = cards-plain e (configAfter g q) qs m (x .unread) (w ++ writes g q) _ _ _ es recs (omega (arith, i)) a size cs in
     rw (one, two, rest, unread)
 
+pub side-coded : (close : Report) (c : ℕ) → CodedReport close → (a : Side totals c close) → CodedHost (a .host)
+side-coded close c coded a =
+    record { reads = λ i. subst CodedFault (sym (a .reads i)) tt; writes = λ i. subst CodedReport (sym (a .accepts i)) tt; close = subst CodedReport (sym (a .closes)) coded; end = a .coded }
+
 pub side-cards : SideCards
 side-cards o close qs c least coded v a within =
-    let z : CodedHost (a .host) =
-    record { reads = λ i. subst CodedFault (sym (a .reads i)) tt; writes = λ i. subst CodedReport (sym (a .accepts i)) tt; close = subst CodedReport (sym (a .closes)) coded; end = a .coded } in
+    let z : CodedHost (a .host) = side-coded close c coded a in
     rw (sym (a .capacity), sym (a .closes))
     (let f = every-host-totals o (a .x) (a .rx) (a .msg) (a .placed) (omega (arith, a)) (omega (arith, a)) (a .wide) (a .host) z (a .lends) qs v (a .incoming) (a .bytes)
     (rw (a .capacity, a .closes) within) .1 in
