@@ -1,14 +1,14 @@
-/* The fourteen functions of libexports.a: the host's side of ADB's sync: service (stat, list, pull, push), without I/O, a heap or a clock;
- * an index of a listing's entries by their times; and for the panel's side a writer of replies and a reader of requests.
+/* The seventeen functions of libexports.a: the host's side of ADB's sync: service (stat, list, pull, push), without I/O, a heap or a clock;
+ * an index of a listing's entries by their times; for the panel's side a writer of replies and a reader of requests; and the date of a moment.
  *
  * A session lives in a record and two buffers of the host's. The host starts a call, does what the library asks (read, write, close),
- * reports what came of it, and so on until the call is answered. examples/pull.c is a whole program.
+ * reports what came of it, and so on until the call is answered. examples/pull.c and examples/push.c are whole programs.
  *
  * What is lent
  *   rec     the session: YUGLASNO_RECORD bytes, written by yuglasno_open and by no one else
- *   settings  what a session is opened with: YUGLASNO_SETTINGS bytes, written by yuglasno_settings and yuglasno_ids. A session keeps
- *           what it was opened with: settings may change or go once yuglasno_open has returned
- *   file    the bytes of an ids file
+ *   settings  what a session is opened with: YUGLASNO_SETTINGS bytes, written by yuglasno_settings, yuglasno_ids and yuglasno_hours. A
+ *           session keeps what it was opened with: settings may change or go once yuglasno_open has returned
+ *   file    the bytes of an ids file, or of an hours file
  *   rx      the receive buffer: 8 bytes at least; a reply that it can't hold is answered TOO_LARGE. YUGLASNO_CAPACITY takes any DATA
  *   msg     the message buffer, for the text of a FAIL: at least as long as rx
  *   lent    the path or the data of the call
@@ -27,7 +27,8 @@
  * Each function answers every input; two threads may be in the library at once, each with slices of its own.
  *
  * What is returned: two forms of number
- *   yuglasno_settings, yuglasno_ids, yuglasno_open, the five of the index and the two of the panel's side   the answer's number alone
+ *   yuglasno_settings, yuglasno_ids, yuglasno_hours, yuglasno_may_push, yuglasno_open, the five of the index, the two of the panel's side
+ *   and yuglasno_date   the answer's number alone
  *   the other four  what + 256 * number: yuglasno_what() says what is asked (YUGLASNO_WHAT_..), and of WHAT_TOLD yuglasno_answer() is the
  *                   answer's number (YUGLASNO_ANSWER_..). Where something is asked, number is 0 and means nothing.
  *
@@ -59,8 +60,11 @@
  *   yuglasno_speak   the reply at the front of out; in told the word YUGLASNO_SPOKEN_LENGTH
  *   yuglasno_heard   the words YUGLASNO_HEARD_..
  *
+ * What stands in out of yuglasno_date: the words YUGLASNO_DATE_.., and no other byte
+ *
  * What of the record may be read, whenever none of the functions is at work on it: how many bytes a read still wants, by yuglasno_wanted(); the session's totals, by
- * yuglasno_received(), yuglasno_consumed() and yuglasno_written(); a call's reads, by yuglasno_reads(). All else in it is the library's own. */
+ * yuglasno_received(), yuglasno_consumed() and yuglasno_written(); a call's reads, by yuglasno_reads(); the hours, from byte YUGLASNO_HOURS_IN_RECORD on. All else in
+ * it is the library's own. */
 #ifndef YUGLASNO_H
 #define YUGLASNO_H
 
@@ -71,7 +75,7 @@
 extern "C" {
 #endif
 
-#define YUGLASNO_RECORD 296     /* bytes of a record */
+#define YUGLASNO_RECORD 328     /* bytes of a record */
 #define YUGLASNO_SETTINGS 128   /* bytes of settings */
 #define YUGLASNO_REPLY 120      /* bytes of a slice that takes any reply */
 #define YUGLASNO_DATA_MOST 65536 /* the most bytes in one DATA message */
@@ -82,18 +86,19 @@ extern "C" {
 #define YUGLASNO_INDEX_NAMES 65536 /* the most bytes of an index's names, together */
 
 /* The calls. lent is the path, or DATA's data; NEXT_ENTRY and the other calls without either may be lent anything, such as NULL.
- * a is the mode of a push or SEND_DONE's time, b the flags of a v2 transfer; where a call has neither they are not looked at. */
-enum {                              /* lent   a     b      */
-  YUGLASNO_CALL_STAT = 1,           /* path                */
-  YUGLASNO_CALL_STAT_V2 = 2,        /* path                */
-  YUGLASNO_CALL_LIST = 3,           /* path                */
-  YUGLASNO_CALL_LIST_V2 = 4,        /* path                */
-  YUGLASNO_CALL_RECV = 5,           /* path                */
-  YUGLASNO_CALL_RECV_V2 = 6,        /* path         flags  */
-  YUGLASNO_CALL_SEND = 7,           /* path   mode         */
-  YUGLASNO_CALL_SEND_V2 = 8,        /* path   mode  flags  */
-  YUGLASNO_CALL_DATA = 9,           /* data                */
-  YUGLASNO_CALL_SEND_DONE = 10,     /*        time         */
+ * a is the mode of a push or SEND_DONE's time, b the flags of a v2 transfer, moment when a push starts, in Unix seconds; where a call has no
+ * use for one it is not looked at. Without hours every moment will do. */
+enum {                              /* lent   a     b      moment */
+  YUGLASNO_CALL_STAT = 1,           /* path                       */
+  YUGLASNO_CALL_STAT_V2 = 2,        /* path                       */
+  YUGLASNO_CALL_LIST = 3,           /* path                       */
+  YUGLASNO_CALL_LIST_V2 = 4,        /* path                       */
+  YUGLASNO_CALL_RECV = 5,           /* path                       */
+  YUGLASNO_CALL_RECV_V2 = 6,        /* path         flags         */
+  YUGLASNO_CALL_SEND = 7,           /* path   mode         moment */
+  YUGLASNO_CALL_SEND_V2 = 8,        /* path   mode  flags  moment */
+  YUGLASNO_CALL_DATA = 9,           /* data                       */
+  YUGLASNO_CALL_SEND_DONE = 10,     /*        time                */
   YUGLASNO_CALL_QUIT = 11,
   YUGLASNO_CALL_NEXT_ENTRY = 12,    /* after LIST, until KIND_END */
   YUGLASNO_CALL_NEXT_ENTRY_V2 = 13, /* after LIST_V2, until KIND_END */
@@ -123,10 +128,11 @@ enum {
   YUGLASNO_FAULT_ERROR = 1   /* another fault, with a code of the host's own */
 };
 
-/* The answers. 1 to 11 and 18 to 23 change nothing: record, settings, buffers, slots, area and a pending call are as before. Where
- * several apply, the first of 1, 2, then 3, 6, 4, 5, 8, 7, 9, 10 is answered; of a report 3, 6, 5, 11, 21. Of a table of ids it is 22, then 23,
- * behind 1 to 3. Of an index it is 3, then 19. Of a reply it is 3 for told, then the settings' answer (3, 22, 23), then 3 for its kind and
- * numbers, then 20; of a request 3 for out, then the settings' answer, then 18. docs/ANSWERS.md says what to do. */
+/* The answers. 1 to 11 and 18 to 25 change nothing: record, settings, buffers, slots, area and a pending call are as before. Where
+ * several apply, the first of 1, 2, then 3, 6, 4, 5, 8, 7, 9, 10, 25 is answered; of a report 3, 6, 5, 11, 21. Of a table of ids
+ * it is 22, then 23, behind 1 to 3, and of an opening's hours 24 behind them. Of an index it is 3, then 19. Of a reply it is 3 for told,
+ * then the settings' answer (3, 22, 23), then 3 for its kind and numbers, then 20; of a request 3 for out, then the settings' answer, then 18.
+ * Of yuglasno_may_push it is 3, 24, 25. docs/ANSWERS.md says what to do. */
 enum {
   YUGLASNO_ANSWER_OK = 0,
   YUGLASNO_ANSWER_SMALL_BUFFER = 1,         /* rx is under 8 bytes */
@@ -154,7 +160,9 @@ enum {
   YUGLASNO_ANSWER_OVERFLOW = 21,            /* a read or a write that would take a total, or a read that would take the call's reads, past
                                                2^64 - 1: it is not counted, and is still awaited */
   YUGLASNO_ANSWER_BAD_IDS = 22,             /* a file, or the settings of an opening, is no table of ids */
-  YUGLASNO_ANSWER_EQUAL_IDS = 23            /* two ids of the table are equal */
+  YUGLASNO_ANSWER_EQUAL_IDS = 23,           /* two ids of the table are equal */
+  YUGLASNO_ANSWER_BAD_HOURS = 24,           /* bad hours, in a file or in settings */
+  YUGLASNO_ANSWER_OUTSIDE_HOURS = 25        /* a push outside the hours in which one may start: nothing is written */
 };
 
 /* The features of a banner, as answer MISSING numbers them. */
@@ -215,6 +223,24 @@ enum {
   YUGLASNO_READS = 36     /* the reads of the call that is pending, until now, or of the one that was last over; a call starts with 0 */
 };
 
+/* Where hours stand, 32 bytes: in settings, and in a record those that its session was opened with. The first is 1, or 0 where there are no
+ * hours; three zeros; then for each day from Monday on the minute it opens and the minute it closes, two bytes each, the lowest first, both 0
+ * for a day without hours. */
+enum {
+  YUGLASNO_HOURS_SIZE = 32,
+  YUGLASNO_HOURS_IN_SETTINGS = 60,
+  YUGLASNO_HOURS_IN_RECORD = 296
+};
+
+/* Where a date has its words. */
+enum {
+  YUGLASNO_DATE_YEAR = 0,
+  YUGLASNO_DATE_MONTH = 1,   /* from 1 */
+  YUGLASNO_DATE_DAY = 2,     /* from 1 */
+  YUGLASNO_DATE_WEEKDAY = 3, /* 0 is Monday, 6 Sunday */
+  YUGLASNO_DATE_MINUTE = 4   /* of the day, from 0 to 1439 */
+};
+
 /* Where a query of an index has its words. */
 enum {
   YUGLASNO_SPAN_MANY = 0,  /* how many entries; of the latest 0 or 1 */
@@ -254,7 +280,7 @@ enum {
 };
 
 /* Makes settings the published ones: the fifteen ids of the public documents, four bytes each, in the order STAT, STA2, LIST, LIS2, SEND,
- * SND2, RECV, RCV2, DATA, DONE, OKAY, FAIL, DENT, DNT2, QUIT, then zeros. OK, or OTHER_LENGTH. */
+ * SND2, RECV, RCV2, DATA, DONE, OKAY, FAIL, DENT, DNT2, QUIT, then zeros: no hours. OK, or OTHER_LENGTH. */
 uint32_t yuglasno_settings(uint8_t *settings, size_t settings_len);
 
 /* Puts the ids of a file in the place of those in settings. The file has two lines, each with byte 10 at its end: the published ids, joined
@@ -262,15 +288,31 @@ uint32_t yuglasno_settings(uint8_t *settings, size_t settings_len);
  * settings, BAD_IDS for a file of another form, EQUAL_IDS for one with two equal values, and settings are as before. */
 uint32_t yuglasno_ids(uint8_t *settings, size_t settings_len, const uint8_t *file, size_t file_len);
 
-/* Opens a session in rec, for buffers of these two lengths, under the ids in settings. Of the banner only "features=.." counts. OK; or
- * SMALL_BUFFER, SHORT_MESSAGE_BUFFER, OTHER_LENGTH for rec or settings, then BAD_IDS or EQUAL_IDS where settings have ids that
- * yuglasno_ids would not have put there. */
+/* Puts the hours of a file in the place of those in settings, or of none. The file has the line day,open,close and up to seven lines, each
+ * with byte 10 at its end: a day, 0 for Monday to 6, and the minutes of that day, in UTC, from which (it is included) and until which (it is
+ * not) a push may start, open below close and close at most 1440. Days rise from line to line; the numbers are decimal, without sign, blank
+ * or a 0 in front. The first line alone are hours in which no push starts. OK; or OTHER_LENGTH for settings, BAD_HOURS for a file of another
+ * form, and settings are as before. */
+uint32_t yuglasno_hours(uint8_t *settings, size_t settings_len, const uint8_t *file, size_t file_len);
+
+/* Whether the hours in settings let a push start at a moment, in Unix seconds: OK, also where there are none, or OUTSIDE_HOURS. Ahead of that
+ * OTHER_LENGTH for settings, and BAD_HOURS for hours that yuglasno_hours would not have put there. A session that is opened with these
+ * settings answers a push alike. */
+uint32_t yuglasno_may_push(const uint8_t *settings, size_t settings_len, uint32_t moment);
+
+/* The date of a moment in UTC, by the Gregorian calendar. OK, or OTHER_LENGTH where out has under YUGLASNO_REPLY bytes. */
+uint32_t yuglasno_date(uint32_t moment, uint8_t *out, size_t out_len);
+
+/* Opens a session in rec, for buffers of these two lengths, under the ids and with the hours in settings. Of the banner only "features=.."
+ * counts. OK; or SMALL_BUFFER, SHORT_MESSAGE_BUFFER, OTHER_LENGTH for rec or settings, then BAD_IDS or EQUAL_IDS where settings have ids that
+ * yuglasno_ids would not have put there, then BAD_HOURS where they have such hours. */
 uint32_t yuglasno_open(uint8_t *rec, size_t rec_len, const uint8_t *settings, size_t settings_len, const uint8_t *banner, size_t banner_len,
                        size_t rx, size_t msg);
 
-/* Starts a call. */
+/* Starts a call. A push outside the session's hours is OUTSIDE_HOURS, and nothing is asked; one that has begun goes on past them. */
 uint32_t yuglasno_start(uint8_t *rec, size_t rec_len, uint8_t *rx, size_t rx_len, uint8_t *msg, size_t msg_len,
-                        const uint8_t *lent, size_t lent_len, uint32_t call, uint32_t a, uint32_t b, uint8_t *out, size_t out_len);
+                        const uint8_t *lent, size_t lent_len, uint32_t call, uint32_t a, uint32_t b, uint32_t moment, uint8_t *out,
+                        size_t out_len);
 
 /* Reports that count bytes were read to the front of the window. */
 uint32_t yuglasno_read(uint8_t *rec, size_t rec_len, uint8_t *rx, size_t rx_len, uint8_t *msg, size_t msg_len,

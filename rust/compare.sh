@@ -1,5 +1,6 @@
 #!/usr/bin/env bash
 # The library beside 000: random lists of calls, document 01's trial pieces, paths with a NUL and banners, the intended differences, and the stored sample.
+# Then the same lists with hours, which 000 has not, beside this library without them.
 #
 #   YUGLASNO_000=DIR [YUGLASNO_LIB=DIR] bash rust/compare.sh [LISTS [SEED]]
 #
@@ -12,6 +13,7 @@ if $oracle 2>/dev/null | grep -q 'left out'; then
   exec $oracle replay oracle/recorded.txt
 fi
 $oracle lists "${1:-20000}" "${2:-1}"
+$oracle hours "${1:-20000}" "${2:-1}"
 $oracle trials | tail -n 1
 $oracle differences | tail -n 1
 $oracle record 60 9 | cmp - oracle/recorded.txt

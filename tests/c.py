@@ -1,5 +1,6 @@
-"""include/yuglasno.h, from C and from C++: tests/c/edges.c and tests/c/panel_side.c try what the header says, and examples/pull.c pulls files of a folder from the
-test panel over a pipe, compared with the files themselves.
+"""include/yuglasno.h, from C and from C++: tests/c/edges.c, tests/c/panel_side.c and tests/c/hours.c try what the header says; examples/pull.c pulls files of a
+folder from the test panel over a pipe, compared with the files themselves; examples/push.c pushes to it in the hours of examples/workshop.hours, and not outside
+them.
 
 Over the static library in target/staticlib, or in the folder YUGLASNO_LIB. The last line is 'N passed, M failed'."""
 import itertools
@@ -19,7 +20,9 @@ STRICT = ['-Wall', '-Wextra', '-Werror', '-pedantic', '-O2', '-I', str(ROOT / 'i
 C, CPP = ['cc', '-std=c11', '-x', 'c'], ['c++', '-std=c++17', '-x', 'c++']
 BANNERS = ['', 'features=stat_v2', 'device::features=ls_v2,stat_v2,sendrecv_v2']
 LENGTHS = [0, 1, 13, 65536, 65537, 200000]
-FAIL, ERRNO, NOT_AS_SAID = 14, 16, 65
+FAIL, ERRNO, BAD_HOURS, OUTSIDE_HOURS, USAGE, NOT_AS_SAID, NO_INPUT = 14, 16, 24, 25, 64, 65, 66
+# 2024-01-01 07:00, a Monday, at which the hours of examples/workshop.hours begin
+OPENS = 1704092400
 # a panel that says so many bytes and a mode, and sends five
 LYING = '''import struct, sys
 mode, size = int(sys.argv[1], 8), int(sys.argv[2])
@@ -91,14 +94,36 @@ def one_pull(words, file):
     count.check(pulled.stderr.decode() == numbers, f'{case}: {pulled.stderr!r} is not {numbers!r}')
 
 
+def pushes(folder):
+    program, served, hours = folder / 'push', folder / 'pushed', ROOT / 'examples' / 'workshop.hours'
+    if not built(C, 'examples/push.c', program):
+        return
+    served.mkdir()
+    job, bad = random.Random(1998).randbytes(70000), folder / 'bad.hours'
+    bad.write_bytes(hours.read_bytes() + b'5,0,1\n')
+    cases = [(hours, OPENS, 0), (hours, OPENS + 11 * 3600 - 1, 0), (hours, OPENS - 1, OUTSIDE_HOURS), (hours, OPENS + 11 * 3600, OUTSIDE_HOURS)]
+    cases += [(bad, OPENS, BAD_HOURS), (folder / 'none', OPENS, NO_INPUT), (hours, -1, USAGE), (hours, 2 ** 32, USAGE), (hours, 'x', USAGE)]
+    for banner in ('', 'features=sendrecv_v2'):
+        for file, when, status in cases:
+            words = [program, file, str(when), banner, '/new.job', panel(), '--folder', served]
+            pushed = subprocess.run(words, input=job, capture_output=True, timeout=60)
+            made = [(entry.read_bytes(), int(entry.stat().st_mtime)) for entry in served.iterdir()]
+            count.check(pushed.returncode == status, f'a push at {when}, {banner!r}: {pushed}')
+            count.check(made == ([] if status else [(job, when)]), f'a push at {when}, {banner!r}: {len(made)} files, or another')
+            said = b'no push may start on Monday 2024-01-01 06:59 UTC' if when == OPENS - 1 else b''
+            count.check(said in pushed.stderr, f'a push at {when}: {pushed.stderr}')
+            (served / 'new.job').unlink(missing_ok=True)
+
+
 def main():
     with tempfile.TemporaryDirectory() as name:
         folder = pathlib.Path(name)
         if not shutil.which(CPP[0]):
             print('c: no C++ compiler: the header as C++ is left out')
-        for compiler, name in itertools.product([C, CPP] if shutil.which(CPP[0]) else [C], ('edges', 'panel_side')):
+        for compiler, name in itertools.product([C, CPP] if shutil.which(CPP[0]) else [C], ('edges', 'panel_side', 'hours')):
             tried(folder, compiler, name)
         pulls(folder)
+        pushes(folder)
     count.finish()
 
 

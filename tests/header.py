@@ -30,22 +30,32 @@ WITHOUT = {
     ('definitions', 'kinds, read'): {'OTHER'},
     ('definitions', 'what, read'): {'CLOSE'},
 }
-# what is numbered by its place in a list: feature names, requests, what is told of a request
+# what is numbered by its place in a list: feature names, requests, what is told of a request, the words of a date
 LISTED = r'ascii "\w+"|some Q\.\w+|some \(Q\.\w+(?: \w| \(record \{ 0 = \w \}\))+\)'
 LISTED += r'|(?:callNumber|(?:first|flag)Number nothing) \(call q\)|headerSize(?= ∷)|length \(lentOf nothing \(call q\)\)|\bn(?= ∷ \[\])'
+LISTED += r'|(?<=[e)] )\(d \.\w+\)(?= )|(?<=\) )w(?= n\n)|(?<=\) w )n(?=\n)'
 # of what is no number: the header's remark on a call, a parameter's type
 EDITS = [
-    ('header', '/* path   mode         */', '/* path                */'),
+    ('header', '/* path   mode         moment */', '/* path                moment */'),
+    ('header', '/* path   mode  flags  moment */', '/* path   mode  flags         */'),
     ('header', 'const uint8_t *banner', 'uint8_t *banner'),
     ('rust', 'Self::SendDone(time) => (10, time, 0)', 'Self::SendDone(time) => (10, 0, 0)'),
     ('rust', 'count: usize, out: *mut u8', 'count: u32, out: *mut u8'),
+    ('rust', 'Self::Send(.., moment) | Self::SendV2(.., moment) => moment', 'Self::Send(.., moment) => moment'),
+    ('rust', 'b: u32, moment: u32, out: *mut u8', 'b: u32, out: *mut u8'),
+    ('definitions', 'isPush (call (chunk x)) = false', 'isPush (call (chunk x)) = true'),
     ('definitions', 'flagNumber z (call (rcv2 p f)) = f', 'flagNumber z (call (rcv2 p f)) = z .second'),
     ('definitions', 'lentOf z (call (done t)) = z .lent', 'lentOf z (call (done t)) = t'),
     ('definitions', 'kind: u32,\n    code: u32,', 'code: u32,\n    kind: u32,'),
     # the order of the answers
-    ('header', '5, 8, 7, 9, 10 is', '5, 7, 8, 9, 10 is'),
-    ('rust', '5, 8, 7, 9, 10 is', '5, 7, 8, 9, 10 is'),
-    ('page of answers', '5, 8, 7, 9, 10 is', '5, 7, 8, 9, 10 is'),
+    ('header', '5, 8, 7, 9, 10, 25 is', '5, 7, 8, 9, 10, 25 is'),
+    ('rust', '5, 8, 7, 9, 10, 25 is', '5, 7, 8, 9, 10, 25 is'),
+    ('page of answers', '5, 8, 7, 9, 10, 25 is', '5, 7, 8, 9, 10, 25 is'),
+    ('header', '9, 10, 25 is', '9, 25, 10 is'),
+    ('rust', '9, 10, 25 is', '9, 25, 10 is'),
+    ('page of answers', '9, 10, 25 is', '9, 25, 10 is'),
+    ('definitions', 'refusalAt h g m = orElse (refusal g (m .call)) (refuse (outside h m) (refused closedHours))',
+     'refusalAt h g m = orElse (refuse (outside h m) (refused closedHours)) (refusal g (m .call))'),
     ('definitions', 'orElse (refuse (has 0 p) (refused 8)) (refuse (ltb (d .longest) (length p)) (refused 7))',
      'orElse (refuse (ltb (d .longest) (length p)) (refused 7)) (refuse (has 0 p) (refused 8))'),
     ('header', '6, 5, 11, 21', '6, 5, 21, 11'),
@@ -55,6 +65,9 @@ EDITS = [
     ('page of answers', 'it is 22, then 23', 'it is 23, then 22'),
     ('definitions', '(pick (twoEqual vs) (refused equalValues) (ids vs)) (refused badForm)',
      '(pick (twoEqual vs) (refused badForm) (ids vs)) (refused equalValues)'),
+    ('header', 'hours 24 behind them', 'hours 22 behind them'),
+    ('rust', 'hours 24 behind them', 'hours 22 behind them'),
+    ('page of answers', 'hours 24 behind them', 'hours 22 behind them'),
     ('header', 'it is 3, then 19', 'it is 19, then 3'),
     ('rust', 'it is 3, then 19', 'it is 19, then 3'),
     ('page of answers', 'it is 3, then 19', 'it is 19, then 3'),

@@ -50,13 +50,14 @@ class Link:
 
 
 class Session:
-    """A session under the published ids, or those of an ids file."""
+    """A session under the published ids, or those of an ids file; with the hours of an hours file, or none."""
 
-    def __init__(self, library, banner, capacity=LENGTHS['CAPACITY'], ids=None):
+    def __init__(self, library, banner, capacity=LENGTHS['CAPACITY'], ids=None, hours=None):
         self.library, self.capacity, self.well_counted = library, capacity, True
         settings = ctypes.create_string_buffer(LENGTHS['SETTINGS'])
         assert library.yuglasno_settings(settings, len(settings)) == ANSWER['OK']
         assert ids is None or library.yuglasno_ids(settings, len(settings), ids, len(ids)) == ANSWER['OK']
+        assert hours is None or library.yuglasno_hours(settings, len(settings), hours, len(hours)) == ANSWER['OK']
         self.rec, self.rx, self.msg, self.out = (
             ctypes.create_string_buffer(n) for n in (LENGTHS['RECORD'], capacity, capacity, LENGTHS['REPLY']))
         opened = library.yuglasno_open(self.rec, len(self.rec), settings, len(settings), banner, len(banner), capacity, capacity)
@@ -77,7 +78,7 @@ class Session:
     def counts_reads(self, number, brought, before):
         """Whether so many reads are told of a call and are in the record, under the ceiling; a refusal tells none, and leaves the record's."""
         (consumed, reads), told = self.in_record(CONSUMED, READS), self.word(AT['READS'])
-        if 0 < number < ANSWER['CLOSED']:
+        if 0 < number < ANSWER['CLOSED'] or number == ANSWER['OUTSIDE_HOURS']:
             return (told, reads) == (0, before[1])
         return told == reads == brought and (brought <= consumed - before[0] + CEILING or number in BROKEN_OFF)
 
@@ -102,10 +103,10 @@ class Session:
             link.written += place[self.word(0):self.word(0) + self.word(1)]
         return self.step('wrote', lent)
 
-    def call(self, link, name, lent=b'', a=0, b=0):
+    def call(self, link, name, lent=b'', a=0, b=0, moment=0):
         """A call to its answer: see `answered`."""
         reads, before = link.reads, self.in_record(CONSUMED, READS)
-        what, number = self.step('start', lent, CALL[name], a, b)
+        what, number = self.step('start', lent, CALL[name], a, b, moment)
         while what != WHAT['TOLD']:
             what, number = self.take(what, lent, link)
         self.well_counted &= self.counts_reads(number, link.reads - reads, before)

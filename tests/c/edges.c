@@ -11,6 +11,8 @@
 
 /* Every slice starts at an odd address. */
 enum { CAPACITY = 101, ODD = 1 };
+/* When a push starts; where there are no hours it may be any moment. */
+enum { ANYTIME = 1998 };
 static uint8_t memory[4][CAPACITY + YUGLASNO_RECORD + ODD];
 static uint8_t *const rec = memory[0] + ODD, *const rx = memory[1] + ODD, *const msg = memory[2] + ODD, *const out = memory[3] + ODD;
 static uint8_t written[CAPACITY];
@@ -64,7 +66,7 @@ static uint32_t call_in(uint32_t number, const char *path, const char *reply, si
   size_t lent_len = strlen(path), at = 0, reads = 0;
   const uint64_t consumed = yuglasno_consumed(rec);
   writes = 0;
-  uint32_t told = yuglasno_start(SESSION, lent, lent_len, number, 0, 0, REPLY);
+  uint32_t told = yuglasno_start(SESSION, lent, lent_len, number, 0, 0, ANYTIME, REPLY);
   while (yuglasno_what(told) != YUGLASNO_WHAT_TOLD) {
     if (yuglasno_what(told) != YUGLASNO_WHAT_READ) {
       told = follow(told, lent, lent_len);
@@ -160,7 +162,7 @@ static void nul_in_long_path(uint8_t *path, size_t length) {
   for (size_t i = 0; i < sizeof places / sizeof *places; i++) {
     path[places[i]] = 0;
     for (uint32_t number = YUGLASNO_CALL_STAT; number <= YUGLASNO_CALL_SEND_V2; number++)
-      REFUSED(NUL_IN_PATH, yuglasno_start(SESSION, path, length, number, 0, 3, REPLY));
+      REFUSED(NUL_IN_PATH, yuglasno_start(SESSION, path, length, number, 0, 3, ANYTIME, REPLY));
     path[places[i]] = 'p';
   }
 }
@@ -169,29 +171,29 @@ static void refusals(void) {
   static uint8_t path[70000];
   memset(path, 'p', sizeof path);
   open_session("");
-  REFUSED_UNTOLD(OTHER_LENGTH, yuglasno_start(SESSION, path, 1, YUGLASNO_CALL_STAT, 0, 0, NULL, 0));
-  REFUSED_UNTOLD(OTHER_LENGTH, yuglasno_start(SESSION, path, 1, YUGLASNO_CALL_STAT, 0, 0, out, YUGLASNO_REPLY - 1));
-  REFUSED(OTHER_LENGTH, yuglasno_start(NULL, 0, rx, CAPACITY, msg, CAPACITY, path, 1, YUGLASNO_CALL_STAT, 0, 0, REPLY));
-  REFUSED(OTHER_LENGTH, yuglasno_start(rec, YUGLASNO_RECORD, NULL, 0, NULL, 0, path, 1, YUGLASNO_CALL_STAT, 0, 0, REPLY));
-  REFUSED(LONG_PATH, yuglasno_start(SESSION, path, YUGLASNO_PATH_MOST + 1, YUGLASNO_CALL_STAT, 0, 0, REPLY));
-  REFUSED(LONG_PATH, yuglasno_start(SESSION, path, sizeof path, YUGLASNO_CALL_RECV_V2, 0, 3, REPLY));
-  REFUSED(NUL_IN_PATH, yuglasno_start(SESSION, (const uint8_t *)"a\0b", 3, YUGLASNO_CALL_STAT, 0, 0, REPLY));
+  REFUSED_UNTOLD(OTHER_LENGTH, yuglasno_start(SESSION, path, 1, YUGLASNO_CALL_STAT, 0, 0, ANYTIME, NULL, 0));
+  REFUSED_UNTOLD(OTHER_LENGTH, yuglasno_start(SESSION, path, 1, YUGLASNO_CALL_STAT, 0, 0, ANYTIME, out, YUGLASNO_REPLY - 1));
+  REFUSED(OTHER_LENGTH, yuglasno_start(NULL, 0, rx, CAPACITY, msg, CAPACITY, path, 1, YUGLASNO_CALL_STAT, 0, 0, ANYTIME, REPLY));
+  REFUSED(OTHER_LENGTH, yuglasno_start(rec, YUGLASNO_RECORD, NULL, 0, NULL, 0, path, 1, YUGLASNO_CALL_STAT, 0, 0, ANYTIME, REPLY));
+  REFUSED(LONG_PATH, yuglasno_start(SESSION, path, YUGLASNO_PATH_MOST + 1, YUGLASNO_CALL_STAT, 0, 0, ANYTIME, REPLY));
+  REFUSED(LONG_PATH, yuglasno_start(SESSION, path, sizeof path, YUGLASNO_CALL_RECV_V2, 0, 3, ANYTIME, REPLY));
+  REFUSED(NUL_IN_PATH, yuglasno_start(SESSION, (const uint8_t *)"a\0b", 3, YUGLASNO_CALL_STAT, 0, 0, ANYTIME, REPLY));
   nul_in_long_path(path, sizeof path);
-  REFUSED(FLAGS, yuglasno_start(SESSION, path, 1, YUGLASNO_CALL_RECV_V2, 0, YUGLASNO_FLAG_DRY_RUN, REPLY));
-  REFUSED(MISSING, yuglasno_start(SESSION, path, 1, YUGLASNO_CALL_LIST_V2, 0, 0, REPLY));
+  REFUSED(FLAGS, yuglasno_start(SESSION, path, 1, YUGLASNO_CALL_RECV_V2, 0, YUGLASNO_FLAG_DRY_RUN, ANYTIME, REPLY));
+  REFUSED(MISSING, yuglasno_start(SESSION, path, 1, YUGLASNO_CALL_LIST_V2, 0, 0, ANYTIME, REPLY));
   CHECK(word(YUGLASNO_AT_KIND) == YUGLASNO_KIND_OTHER && word(YUGLASNO_AT_NUMBER) == YUGLASNO_FEATURE_LS_V2);
-  REFUSED(NOT_AWAITED, yuglasno_start(SESSION, NULL, 0, YUGLASNO_CALL_RECV_NEXT + 1, 0, 0, REPLY));
+  REFUSED(NOT_AWAITED, yuglasno_start(SESSION, NULL, 0, YUGLASNO_CALL_RECV_NEXT + 1, 0, 0, ANYTIME, REPLY));
   REFUSED(NOT_AWAITED, yuglasno_wrote(SESSION, NULL, 0, REPLY));
-  CHECK(yuglasno_start(SESSION, path, YUGLASNO_PATH_MOST, YUGLASNO_CALL_STAT, 0, 0, REPLY) == YUGLASNO_WHAT_WRITE_BYTES);
+  CHECK(yuglasno_start(SESSION, path, YUGLASNO_PATH_MOST, YUGLASNO_CALL_STAT, 0, 0, ANYTIME, REPLY) == YUGLASNO_WHAT_WRITE_BYTES);
   CHECK(word(0) == 8 && memcmp(out + 8, "STAT\0\4\0\0", 8) == 0);
 }
 
 /* While a read is awaited. */
 static void pending(void) {
   open_session("");
-  CHECK(yuglasno_what(yuglasno_start(SESSION, NULL, 0, YUGLASNO_CALL_RECV_NEXT, 0, 0, REPLY)) == YUGLASNO_WHAT_READ);
+  CHECK(yuglasno_what(yuglasno_start(SESSION, NULL, 0, YUGLASNO_CALL_RECV_NEXT, 0, 0, ANYTIME, REPLY)) == YUGLASNO_WHAT_READ);
   CHECK(word(0) == 0 && word(1) == CAPACITY && yuglasno_wanted(rec) == 8);
-  CHECK(yuglasno_start(SESSION, NULL, 0, YUGLASNO_CALL_QUIT, 0, 0, REPLY) == YUGLASNO_ANSWER_PENDING << 8);
+  CHECK(yuglasno_start(SESSION, NULL, 0, YUGLASNO_CALL_QUIT, 0, 0, ANYTIME, REPLY) == YUGLASNO_ANSWER_PENDING << 8);
   CHECK(yuglasno_read(SESSION, NULL, 0, 0, REPLY) == YUGLASNO_ANSWER_COUNT << 8);
   CHECK(yuglasno_read(SESSION, NULL, 0, CAPACITY + 1, REPLY) == YUGLASNO_ANSWER_COUNT << 8);
   CHECK(yuglasno_read(SESSION, (const uint8_t *)PATH, 2, 1, REPLY) == YUGLASNO_ANSWER_OTHER_LENGTH << 8);
@@ -205,7 +207,7 @@ static void pending(void) {
 static void moved(void) {
   static uint8_t other[3][sizeof memory[0]];
   open_session("");
-  CHECK(yuglasno_start(SESSION, NULL, 0, YUGLASNO_CALL_RECV_NEXT, 0, 0, REPLY) == YUGLASNO_WHAT_READ);
+  CHECK(yuglasno_start(SESSION, NULL, 0, YUGLASNO_CALL_RECV_NEXT, 0, 0, ANYTIME, REPLY) == YUGLASNO_WHAT_READ);
   memcpy(rx, "DATA\2", 5);
   CHECK(yuglasno_read(SESSION, NULL, 0, 5, REPLY) == YUGLASNO_WHAT_READ && word(0) == 5);
   memcpy(other, memory, sizeof other);
@@ -267,21 +269,21 @@ static void panels_answers(size_t cut) {
 static void quitting(void) {
   open_session("");
   CHECK(HEARD(YUGLASNO_CALL_QUIT, "", "", 1) == YUGLASNO_ANSWER_OK && writes == 8 && memcmp(written, "QUIT\0\0\0\0", 8) == 0);
-  CHECK(yuglasno_start(SESSION, NULL, 0, YUGLASNO_CALL_QUIT, 0, 0, REPLY) == YUGLASNO_ANSWER_ENDED << 8);
+  CHECK(yuglasno_start(SESSION, NULL, 0, YUGLASNO_CALL_QUIT, 0, 0, ANYTIME, REPLY) == YUGLASNO_ANSWER_ENDED << 8);
 }
 
 /* A record of any other length is none, and not a byte of what is lent changes but that the reply tells no reads. */
 static void other_records(void) {
-  const size_t lengths[] = {0, 192, 256, 288, YUGLASNO_RECORD - 1, YUGLASNO_RECORD + 1};
+  const size_t lengths[] = {0, 192, 256, 288, 296, YUGLASNO_RECORD - 1, YUGLASNO_RECORD + 1};
   open_session("");
-  CHECK(yuglasno_start(SESSION, NULL, 0, YUGLASNO_CALL_RECV_NEXT, 0, 0, REPLY) == YUGLASNO_WHAT_READ);
+  CHECK(yuglasno_start(SESSION, NULL, 0, YUGLASNO_CALL_RECV_NEXT, 0, 0, ANYTIME, REPLY) == YUGLASNO_WHAT_READ);
   uint8_t as_it_was[YUGLASNO_REPLY];
   memset(as_it_was, 0xee, YUGLASNO_REPLY);
   memset(out, 0xee, YUGLASNO_REPLY);
   for (size_t i = 0; i < sizeof lengths / sizeof *lengths; i++) {
     size_t n = lengths[i];
     REFUSED_UNTOLD(OTHER_LENGTH, yuglasno_open(rec, n, settings, YUGLASNO_SETTINGS, NULL, 0, CAPACITY, CAPACITY) << 8);
-    REFUSED(OTHER_LENGTH, yuglasno_start(rec, n, rx, CAPACITY, msg, CAPACITY, NULL, 0, YUGLASNO_CALL_QUIT, 0, 0, REPLY));
+    REFUSED(OTHER_LENGTH, yuglasno_start(rec, n, rx, CAPACITY, msg, CAPACITY, NULL, 0, YUGLASNO_CALL_QUIT, 0, 0, ANYTIME, REPLY));
     REFUSED(OTHER_LENGTH, yuglasno_read(rec, n, rx, CAPACITY, msg, CAPACITY, NULL, 0, 1, REPLY));
     REFUSED(OTHER_LENGTH, yuglasno_wrote(rec, n, rx, CAPACITY, msg, CAPACITY, NULL, 0, REPLY));
     REFUSED(OTHER_LENGTH, yuglasno_fault(rec, n, rx, CAPACITY, msg, CAPACITY, NULL, 0, YUGLASNO_FAULT_CLOSED, 0, REPLY));
@@ -301,12 +303,12 @@ static void totals(void) {
   memset(rec, 0xee, YUGLASNO_RECORD);
   open_session("");
   CHECK(totals_are(0, 0, 0) && yuglasno_reads(rec) == 0);
-  CHECK(yuglasno_what(yuglasno_start(SESSION, LENT, YUGLASNO_CALL_STAT, 0, 0, REPLY)) == YUGLASNO_WHAT_WRITE_RX && totals_are(0, 0, 0));
+  CHECK(yuglasno_what(yuglasno_start(SESSION, LENT, YUGLASNO_CALL_STAT, 0, 0, ANYTIME, REPLY)) == YUGLASNO_WHAT_WRITE_RX && totals_are(0, 0, 0));
   CHECK(yuglasno_wrote(SESSION, LENT, REPLY) == YUGLASNO_WHAT_READ && totals_are(0, 0, 10));
   memcpy(rx + word(0), "STAT" STAT1, 16);
   CHECK(yuglasno_read(SESSION, LENT, 3, REPLY) == YUGLASNO_WHAT_READ && totals_are(3, 0, 10) && yuglasno_reads(rec) == 1);
   REFUSED(COUNT, yuglasno_read(SESSION, LENT, 0, REPLY));
-  REFUSED(PENDING, yuglasno_start(SESSION, LENT, YUGLASNO_CALL_STAT, 0, 0, REPLY));
+  REFUSED(PENDING, yuglasno_start(SESSION, LENT, YUGLASNO_CALL_STAT, 0, 0, ANYTIME, REPLY));
   REFUSED(OTHER_LENGTH, yuglasno_read(SESSION, NULL, 0, 13, REPLY));
   CHECK(totals_are(3, 0, 10) && yuglasno_reads(rec) == 1);
   CHECK(yuglasno_read(SESSION, LENT, 13, REPLY) == YUGLASNO_ANSWER_OK && totals_are(16, 16, 10) && reads_are(0, 2, 0));
@@ -315,7 +317,7 @@ static void totals(void) {
   CHECK(HEARD(YUGLASNO_CALL_QUIT, "", "", 1) == YUGLASNO_ANSWER_OK && totals_are(16, 16, 18));
   REFUSED(ENDED, yuglasno_wrote(SESSION, NULL, 0, REPLY));
   open_session("");
-  CHECK(yuglasno_start(SESSION, LENT, YUGLASNO_CALL_STAT, 0, 0, REPLY) == YUGLASNO_WHAT_WRITE_RX);
+  CHECK(yuglasno_start(SESSION, LENT, YUGLASNO_CALL_STAT, 0, 0, ANYTIME, REPLY) == YUGLASNO_WHAT_WRITE_RX);
   CHECK(yuglasno_fault(SESSION, LENT, YUGLASNO_FAULT_CLOSED, 0, REPLY) == YUGLASNO_ANSWER_CLOSED << 8 && totals_are(0, 0, 0));
 }
 
@@ -325,7 +327,7 @@ static void totals_of_a_fail(void) {
   enum { SMALL = 8 };
   size_t at = 0;
   CHECK(OPEN(YUGLASNO_SETTINGS, SMALL, SMALL) == YUGLASNO_ANSWER_OK);
-  uint32_t told = yuglasno_start(rec, YUGLASNO_RECORD, rx, SMALL, msg, SMALL, NULL, 0, YUGLASNO_CALL_RECV_NEXT, 0, 0, REPLY);
+  uint32_t told = yuglasno_start(rec, YUGLASNO_RECORD, rx, SMALL, msg, SMALL, NULL, 0, YUGLASNO_CALL_RECV_NEXT, 0, 0, ANYTIME, REPLY);
   while (yuglasno_what(told) == YUGLASNO_WHAT_READ && at < sizeof fail - 1) {
     size_t count = least(sizeof fail - 1 - at, word(1));
     memcpy(rx + word(0), fail + at, count);
@@ -373,7 +375,7 @@ static void leave_room(uint64_t to_receive, uint64_t to_write) {
 /* A total may reach 2^64 - 1, and not pass it: 21, behind 3, 6, 5 and 11. */
 static void overflow(void) {
   open_session("");
-  CHECK(yuglasno_start(SESSION, LENT, YUGLASNO_CALL_STAT, 0, 0, REPLY) == YUGLASNO_WHAT_WRITE_RX);
+  CHECK(yuglasno_start(SESSION, LENT, YUGLASNO_CALL_STAT, 0, 0, ANYTIME, REPLY) == YUGLASNO_WHAT_WRITE_RX);
   leave_room(15, 9);
   REFUSED(OVERFLOW, yuglasno_wrote(SESSION, LENT, REPLY));
   CHECK(word(YUGLASNO_AT_KIND) == YUGLASNO_KIND_OTHER && word(YUGLASNO_AT_START) == 0 && word(YUGLASNO_AT_LENGTH) == 0);
@@ -398,7 +400,7 @@ static void overflow(void) {
 static void overflow_of_reads(void) {
   open_session("");
   memset(rec + 8 * YUGLASNO_READS, 0xff, 8);
-  CHECK(yuglasno_start(SESSION, NULL, 0, YUGLASNO_CALL_RECV_NEXT, 0, 0, REPLY) == YUGLASNO_WHAT_READ && yuglasno_reads(rec) == 0);
+  CHECK(yuglasno_start(SESSION, NULL, 0, YUGLASNO_CALL_RECV_NEXT, 0, 0, ANYTIME, REPLY) == YUGLASNO_WHAT_READ && yuglasno_reads(rec) == 0);
   memset(rec + 8 * YUGLASNO_READS, 0xff, 8);
   REFUSED(OVERFLOW, yuglasno_read(SESSION, NULL, 0, 1, REPLY));
   REFUSED(COUNT, yuglasno_read(SESSION, NULL, 0, 0, REPLY));

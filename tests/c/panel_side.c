@@ -193,7 +193,7 @@ static uint8_t rec[YUGLASNO_RECORD], rx[CAPACITY], msg[CAPACITY], reply[YUGLASNO
 /* What a session is told of these bytes, said again from the words of its reply: the same bytes. */
 static int said_again(uint32_t call, const char *bytes, size_t length) {
   if (yuglasno_open(rec, sizeof rec, SETTINGS, NULL, 0, CAPACITY, CAPACITY) != YUGLASNO_ANSWER_OK) return 0;
-  if (yuglasno_start(rec, sizeof rec, rx, CAPACITY, msg, CAPACITY, NULL, 0, call, 0, 0, reply, sizeof reply) != YUGLASNO_WHAT_READ) return 0;
+  if (yuglasno_start(rec, sizeof rec, rx, CAPACITY, msg, CAPACITY, NULL, 0, call, 0, 0, 0, reply, sizeof reply) != YUGLASNO_WHAT_READ) return 0;
   memcpy(rx, bytes, length);
   if (yuglasno_read(rec, sizeof rec, rx, CAPACITY, msg, CAPACITY, NULL, 0, length, reply, sizeof reply) != YUGLASNO_ANSWER_OK) return 0;
   guard();

@@ -19,11 +19,11 @@ def found(pattern, text):
 
 
 def order(text):
-    """The order of the answers as it is written for readers: each number by its place, of a call, of a report, of a table of ids and of an
-    index."""
+    """The order of the answers as it is written for readers: each number by its place, of a call, of a report, of the settings of an opening
+    (a table of ids, and hours) and of an index."""
     plain = re.sub(r'\s+(?:\*|///)?\s*', ' ', text)
     said = re.search(r'the first of ([\d, ]+), then ([\d, ]+) is answered; of a report ([\d, ]+\d)', plain)
-    of_a_table = re.search(r'Of a table(?: of ids)? it is (\d+), then (\d+), behind', plain)
+    of_a_table = re.search(r"Of a table(?: of ids)? it is (\d+), then (\d+), behind [^.]*, and of an opening's hours (\d+) behind them", plain)
     of_an_index = re.search(r'Of an index it is (\d+), then (\d+)', plain)
     if not (said and of_a_table and of_an_index):
         return {}

@@ -18,9 +18,12 @@ IDS_FILE, SETTINGS = specs('id_table', 'IdsFile Settings')
 INDEX, SLOTS, INDEX_CROSSING, INDEX_CLAIM = specs('time_index', 'Index Slots Crossing Claim')
 PANEL, = specs('panel_side', 'Crossing')
 TOTALS, CARD = specs('totals', 'Crossing Card')
+HOURS, = specs('hours', 'Settings')
+TIMED, = specs('hours_totals', 'Crossing')
+CALENDAR, = specs('calendar', 'Crossing')
 EXPORTS = 'crates/exports/src/lib.rt'
 SOURCES = [TOLD, CROSSING, BOUNDARY, HEARD, ANSWERS, REFUSAL, IDS, MESSAGES, FEATURES, FLAGS, OPENING, REPORTS, HOST, FIELDS, READER]
-SOURCES += [EXPORTS, MISUSE, IDS_FILE, SETTINGS, INDEX, SLOTS, INDEX_CROSSING, INDEX_CLAIM, PANEL, TOTALS, CARD]
+SOURCES += [EXPORTS, MISUSE, IDS_FILE, SETTINGS, INDEX, SLOTS, INDEX_CROSSING, INDEX_CLAIM, PANEL, TOTALS, CARD, HOURS, TIMED, CALENDAR]
 
 # the definitions' words for the calls, and for some answers and kinds
 CALLED = {
@@ -57,6 +60,8 @@ REFUSALS = {
     'BAD_REQUEST': (READER, r'number R\.Refused = (\d+)'),
     'LONG_REPLY': (PANEL, r'longReply = (\d+)'),
     'OVERFLOW': (TOTALS, r'overflowed = (\d+)'),
+    'BAD_HOURS': (HOURS, r'badHours = (\d+)'),
+    'OUTSIDE_HOURS': (REFUSAL, r'closedHours = (\d+)'),
 }
 
 
@@ -67,18 +72,19 @@ def calls(text):
     return made
 
 
-def arms(name, text):
-    """The right-hand side of each call's arm of a function over what a host lends besides, `z`, and calls."""
+def arms(name, text, besides='z '):
+    """The right-hand side of each call's arm of a function over what a host lends besides, and calls."""
     made = {}
-    for m in re.finditer(rf'^{name} z \(?(?:call \(?)?(\w+)[^=\n]* = (.+)$', text, re.M):
+    for m in re.finditer(rf'^{name} {besides}\(?(?:call \(?)?(\w+)[^=\n]* = (.+)$', text, re.M):
         named = {'ask': ['stat', 'sta2', 'list', 'lis2', 'recv'], 'nextEntry': ['nextEntry v1', 'nextEntry v2']}.get(m[1], [m[1]])
         made |= {CALLED[word]: m[2] for word in named}
     return made
 
 
-def uses(boundary, host):
+def uses(boundary, host, refusal):
     lent, first, flags = arms('lentOf', host), arms('firstNumber', boundary), arms('flagNumber', boundary)
-    return {call: (lent[call] != 'z .lent', first[call] != 'z .first', flags[call] != 'z .second') for call in lent}
+    timed = arms('isPush', refusal, '')
+    return {call: (lent[call] != 'z .lent', first[call] != 'z .first', flags[call] != 'z .second', timed.get(call) == 'true') for call in lent}
 
 
 def numbered(crossing):
@@ -160,9 +166,9 @@ def index_order(crossing, index):
     return [number[1] for number in numbers if number]
 
 
-def order(misuse, refusal, answers, ids_file, of_an_index, overflowed):
-    """The numbers in the order of their tests: of the opening, of a call (then of its number, its path, its flags, its features), of a
-    report, of a table of ids, of an index."""
+def order(misuse, refusal, answers, ids_file, of_hours, of_an_index, overflowed):
+    """The numbers in the order of their tests: of the opening, of a call (then of its number, its path, its flags, its features, its moment),
+    of a report, of the settings of an opening, of an index."""
     def refused(text, start):
         return re.findall(r'\(refused (\d+)\)', section(text, start, '\n\n'))
     opening = refused(misuse, 'openRefused takes rec settings rx msg =')[:2]
@@ -170,24 +176,54 @@ def order(misuse, refusal, answers, ids_file, of_an_index, overflowed):
     of_request = refused(misuse, 'numbered s none =') + refused(refusal, 'pathRefusal d p =') + refused(refusal, 'flagRefusal pull f =')
     tests = re.search(r'areValues vs\) \(pick \(twoEqual vs\) \(refused (\w+)\) \(ids vs\)\) \(refused (\w+)\)', ids_file)
     table = [re.search(rf'\n{name} = (\d+)', ids_file)[1] for name in reversed(tests.groups())] if tests else []
-    report += overflowed
-    return placed(opening + call + of_request + re.findall(r'\nnumber \(missing \w+\) = (\d+)', answers), report, table, of_an_index)
+    of_request += re.findall(r'\nnumber \(missing \w+\) = (\d+)', answers)
+    return placed(opening + call + of_request + outside(refusal), report + overflowed, table + of_hours, of_an_index)
+
+
+def outside(refusal):
+    """25, where it stands behind all other refusals of a call."""
+    behind = re.search(r'refusalAt h g m = orElse \(refusal g \(m \.call\)\) \(refuse \(outside h m\) \(refused closedHours\)\)\n', refusal)
+    return re.findall(REFUSALS['OUTSIDE_HOURS'][1], refusal) if behind else []
+
+
+def bad_hours(timed, hours):
+    """24, where an opening looks at the hours behind all else."""
+    behind = re.search(r'pick \(eqb \(o \.number\) 0\)\s+\(pick \(isHours \(hoursBytesIn settings\)\) [^\n]* \(record \{ rec = rec; number = badHours \}\)\)\n', timed)
+    return re.findall(REFUSALS['BAD_HOURS'][1], hours) if behind else []
+
+
+def places(hours, settings, totals):
+    """Where hours stand, and how long they are."""
+    made = found(r'\nhours(?P<name>Size) = (?P<number>\d+)', hours)
+    named = re.search(r'\nhoursPlace = (\w+)', hours)
+    place = named and re.search(rf'\n{named[1]} = (\d+)', settings)
+    made |= {'IN_SETTINGS': int(place[1])} if place else {}
+    return made | {'IN_RECORD': int(m[1]) for m in [re.search(r'\nrecordSize = (\d+)', totals)] if m}
+
+
+def date(calendar):
+    """The words of a date, each by its place."""
+    told = re.search(r'\ndateBytes d w n = five (.*)\n', calendar)
+    names = {'w': 'WEEKDAY', 'n': 'MINUTE'}
+    words = re.findall(r'\(d \.\w+\)|\w', told[1]) if told else []
+    return {names.get(word, word.strip('()')[2:].strip(' .').upper()): i for i, word in enumerate(words)}
 
 
 def tables(texts):
     listed = features(texts[FEATURES])
     told = texts[TOLD].replace('= 256 * answerNumber a', '= 0')
-    limits = {'RECORD': (TOTALS, 'recordSize'), 'REPLY': (TOLD, 'outSize'), 'DATA_MOST': (MESSAGES, 'dataMost'), 'PATH_MOST': (IDS, 'longest')}
+    limits = {'RECORD': (TIMED, 'timedSize'), 'REPLY': (TOLD, 'outSize'), 'DATA_MOST': (MESSAGES, 'dataMost'), 'PATH_MOST': (IDS, 'longest')}
     limits |= {'SETTINGS': (SETTINGS, 'settingsSize'), 'SLOTS': (SLOTS, 'slotsSize')}
     limits |= {'INDEX_ENTRIES': (INDEX, 'mostEntries'), 'INDEX_NAMES': (INDEX, 'mostNames')}
     of_an_index = index_order(texts[INDEX_CROSSING], texts[INDEX])
-    behind = re.search(r'refusedBy s t e = orElse \(refusal s e\) \(refuse [^\n]* \(refused overflowed\)\)\n', texts[CARD])
+    behind = re.search(r'refusedBy h s t e = orElse \(refusal s e\) \(orElse \(closedTo [^\n]*\) \(refuse [^\n]* \(refused overflowed\)\)\)\n', texts[CARD])
     overflowed = re.findall(REFUSALS['OVERFLOW'][1], texts[TOTALS]) if behind else []
-    return read(texts[HEARD]) | order(texts[MISUSE], texts[REFUSAL], texts[ANSWERS], texts[IDS_FILE], of_an_index, overflowed) | {
+    of_hours = bad_hours(texts[TIMED], texts[HOURS])
+    return read(texts[HEARD]) | order(texts[MISUSE], texts[REFUSAL], texts[ANSWERS], texts[IDS_FILE], of_hours, of_an_index, overflowed) | {
         'lengths': {name: int(m[1]) for name, (path, word) in limits.items() if (m := re.search(rf'{word} = (\d+)', texts[path]))},
         'calls': calls(texts[BOUNDARY]),
         'calls, at the start': numbered(texts[CROSSING]),
-        'uses': uses(texts[BOUNDARY], texts[HOST]),
+        'uses': uses(texts[BOUNDARY], texts[HOST], texts[REFUSAL]),
         'what': found(r'replyNumber \(?R\.(?P<name>\w+)[^=\n]*= (?P<number>\d+)', told),
         'kinds': kinds(texts[TOLD]),
         'answers': answers(texts),
@@ -202,6 +238,8 @@ def tables(texts):
         'kinds of a reply': said(texts[PANEL]),
         'words of a reply': spoken(texts[PANEL]),
         'words of a request': request(texts[PANEL]),
+        'hours': places(texts[HOURS], texts[SETTINGS], texts[TOTALS]),
+        'words of a date': date(texts[CALENDAR]),
         'functions': dict(functions(texts[EXPORTS])),
     }
 

@@ -6,16 +6,16 @@ from . import found, order
 SOURCES = ['include/yuglasno.h']
 GROUPS = {'calls': 'CALL', 'what': 'WHAT', 'faults': 'FAULT', 'answers': 'ANSWER', 'features': 'FEATURE', 'kinds': 'KIND', 'words': 'AT'}
 GROUPS |= {'flags': 'FLAG', 'words of a span': 'SPAN', 'words of an item': 'ITEM', 'kinds of a reply': 'SAY', 'words of a request': 'HEARD'}
-GROUPS |= {'words of a reply': 'SPOKEN'}
+GROUPS |= {'words of a reply': 'SPOKEN', 'words of a date': 'DATE', 'hours': 'HOURS'}
 KINDS = {'uint8_t *': 'mut u8 ', 'const uint8_t *': 'const u8 ', 'size_t ': 'usize ', 'uint32_t ': 'u32 ', 'int64_t ': 'i64 '}
 LENGTHS = 'RECORD|SETTINGS|REPLY|DATA_MOST|CAPACITY|PATH_MOST|SLOTS|INDEX_ENTRIES|INDEX_NAMES'
 
 
 def uses(text):
-    """What of lent, a and b each call uses, by the words of its remark."""
+    """What of lent, a, b and moment each call uses, by the words of its remark."""
     for call in re.finditer(r'YUGLASNO_CALL_(\w+) = \d+,?\s*(?:/\*(.*?)\*/)?', text):
         remark = set((call[2] or '').split())
-        yield call[1], (bool(remark & {'path', 'data'}), bool(remark & {'mode', 'time'}), 'flags' in remark)
+        yield call[1], (bool(remark & {'path', 'data'}), bool(remark & {'mode', 'time'}), 'flags' in remark, 'moment' in remark)
 
 
 def functions(text):

@@ -6,18 +6,19 @@ from . import found, order, section, snake
 CRATE = 'rust/yuglasno/src/'
 RAW, CALL, REPLY, ANSWER, ERROR = (CRATE + name for name in ('raw.rs', 'call.rs', 'reply.rs', 'answer.rs', 'error.rs'))
 SESSION, FEATURE, NUMBERS, LIB, INDEX = (CRATE + name for name in ('session.rs', 'feature.rs', 'numbers.rs', 'lib.rs', 'index.rs'))
-SPEAK, HEARD = (CRATE + name for name in ('speak.rs', 'heard.rs'))
-SOURCES = [RAW, CALL, REPLY, ANSWER, ERROR, SESSION, FEATURE, NUMBERS, LIB, INDEX, SPEAK, HEARD]
+SPEAK, HEARD, MOMENT = (CRATE + name for name in ('speak.rs', 'heard.rs', 'moment.rs'))
+SOURCES = [RAW, CALL, REPLY, ANSWER, ERROR, SESSION, FEATURE, NUMBERS, LIB, INDEX, SPEAK, HEARD, MOMENT]
 # an arm of a reply's kind
 SAID = r'Self::(?P<name>\w+)(?:\(\w+\))? => (?:put_\w+\(numbers, [^,]+, )?(?P<number>\d+)'
 FIELD = r'(?P<name>\w+): (?:FileMode\()?word\(out, (?P<number>\d+)\)'
 
 
 def uses(text):
-    """What of lent, a and b each call uses: the arms of `lent` and of `numbers`."""
+    """What of lent, a, b and moment each call uses: the arms of `lent`, of `numbers` and of `moment`."""
     lent = set(re.findall(r'Self::(\w+)\((?:path|data)', section(text, 'pub fn lent(', '=> &[]')))
+    timed = set(re.findall(r'Self::(\w+)\(\.\., moment\)', section(text, 'pub fn moment(', '=> moment')))
     for arm in re.finditer(r'Self::(\w+)(?:\([^)]*\))? => \(\d+, ([\w.]+), ([\w.]+)\)', text):
-        yield snake(arm[1]), (arm[1] in lent, arm[2] != '0', arm[3] != '0')
+        yield snake(arm[1]), (arm[1] in lent, arm[2] != '0', arm[3] != '0', arm[1] in timed)
 
 
 def what(text):
@@ -78,6 +79,8 @@ def tables(texts):
         'words of a span': span(texts[INDEX]),
         'words of an item': item(texts[INDEX]),
         'kinds of a reply': found(SAID, section(texts[SPEAK], 'fn put(&self', '\n    }\n')),
+        'hours': found(r'pub const HOURS_(?P<name>SIZE|IN_SETTINGS|IN_RECORD): usize = (?P<number>\d+);', texts[RAW]),
+        'words of a date': date(texts[MOMENT]),
         'words of a reply': {'LENGTH': only(r'word\(&told, (\d+)\)', texts[SPEAK])},
         'words of a request': request(texts[HEARD]),
         'calls, heard': found(r'(?P<number>\d+) => Call::(?P<name>\w+)', texts[HEARD]),
@@ -91,6 +94,11 @@ def record(text):
     made |= found(r'pub fn (?P<name>reads)\([^{]*\{\s*number\(rec, (?P<number>\d+)\)', text)
     wanted = re.search(r'number\((\d+)\)\.saturating_sub\(number\((\d+)\)\)', text)
     return made | ({'UNTIL': int(wanted[1]), 'TAIL': int(wanted[2])} if wanted else {})
+
+
+def date(text):
+    """The words of a date, each by the field that it goes to."""
+    return found(r'(?P<name>year|month|day|weekday|minute): (?:Weekday::ALL\[)?word\(&out, (?P<number>\d+)\)', text)
 
 
 def span(text):

@@ -10,7 +10,7 @@ use lib.Dec.{eqb, ltb, leb}
 use lib.ListN.{length}
 use Rattle.protocol.specs.Answers.{End, closed, error}
 use Rattle.protocol.specs.Bytes.{pick, bytesOf, put}
-use Rattle.protocol.specs.Calls.{v1, v2, Call, call, nextEntry, nextChunk}
+use Rattle.protocol.specs.Calls.{v1, v2, Call, call, nextEntry, nextChunk, Made}
 use Rattle.protocol.specs.Messages.{stat, sta2, list, lis2, recv, ask, rcv2, send, snd2, chunk, done, quit}
 use Rattle.protocol.proofs.Bodies.{pick-cases}
 use Rattle.record.specs.Fields.{fields}
@@ -148,9 +148,9 @@ module _ (s : St) (x : Inv s) where
     brings : (k : St → Crossed) (o : Out) → k s ≡ back rec (z .out) o → Fine (s .ses) o → stepOf (crossing rec (s .rx) (s .msg) (z .out) k) ≡ image o
     brings k o e f = ap stepOf (loads s (narrow-of s x) (z .out) room k ∙ e) ∙ back-image s (z .out) room o f
 
-    pub start-image : (q : Call) → Fine (s .ses) (begin s q (lentOf z q)) → recorded .start rec (s .rx) (s .msg) q z ≡ image (begin s q (lentOf z q))
+    pub start-image : (m : Made) → Fine (s .ses) (begin s (m .call) (lentOf z (m .call))) → recorded .start rec (s .rx) (s .msg) m z ≡ image (begin s (m .call) (lentOf z (m .call)))
     unfolding crossStart
-    start-image q f = brings _ (begin s q (lentOf z q)) (ap (back rec (z .out)) (called s z q)) f
+    start-image m f = brings _ (begin s (m .call) (lentOf z (m .call))) (ap (back rec (z .out)) (called s z (m .call))) f
 
     pub wrote-image : (lent : List ℕ) → Fine (s .ses) (reportWrote s lent) → recorded .onWrote rec (s .rx) (s .msg) lent z ≡ image (reportWrote s lent)
     unfolding crossWrote

@@ -8,7 +8,7 @@ use native.Mathlib.Omega.{arith}
 use borrow.Author.Tests.{eq-eqb}
 use lib.ListN.{length}
 use Rattle.protocol.specs.Bytes.{Bytes}
-use Rattle.protocol.specs.Calls.{Call}
+use Rattle.protocol.specs.Calls.{Made}
 use Rattle.protocol.specs.Ids.{Id, Table, Legal, STAT, STA2, LIST, LIS2, SEND, SND2, RECV, RCV2, DATA, DONE, OKAY, FAIL, DENT, DNT2, QUIT}
 use Rattle.ids.specs.Ids.{paired, idsOf}
 use Rattle.ids.proofs.Laws.{small}
@@ -19,8 +19,10 @@ use Rattle.record.specs.Narrow.{NarrowIds}
 use Rattle.session.specs.Demand3.{Opening, AllWide, reader, unbounded, Claim}
 use Rattle.session.specs.EveryHost.{CodedHost, EveryHost}
 use Rattle.session.specs.Faithful.{Faithful}
-use Rattle.session.specs.Host.{World, Host, atStart, logOf}
+use Rattle.session.specs.Host.{World, Host, atStart}
+use Rattle.session.specs.Gate.{gated}
 use Rattle.session.specs.State.{St}
+use Rattle.session.proofs.Gated.{logAt, log-gated}
 use Rattle.session.proofs.Demand3.{claimed, begins, opens, begins-good, begins-empty, begins-faithful}
 use Rattle.boundary.specs.Boundary.{recorded, boundary}
 use Rattle.boundary.specs.Crossing.{crossOpen}
@@ -65,17 +67,20 @@ module _ (opening : Opening) (rec rx msg : List ℕ) (placed : length rec ≡ si
   unfolding crossOpen
   opened = rw (opens opening rx msg least room, eq-eqb (length rec) size placed, id-tables .opens (opening .table) (opening .legal))
 
-  -- the log from there is the core's
-  recorded-faithful : (h : Host) → CodedHost h → ((w : World) → boundary .lends (h .spare w)) → (qs : List Call) → AllWide qs → (incoming : List ℕ) → Bytes incoming
-      → (crossOpen rec (settingsOf (opening .table)) (opening .banner) (length rx) (length msg) .number ≡ 0)
-      × Faithful (reader opening (length rx) (h .close)) (h .end) qs incoming
-      (logOf recorded h qs (atStart incoming) (crossOpen rec (settingsOf (opening .table)) (opening .banner) (length rx) (length msg) .rec) rx msg)
-  recorded-faithful h z lends qs v incoming b =
-      rw opened (refl, rw (log-same h z lends qs (atStart incoming) start inv-start b v) (begins-faithful opening rx msg least room h qs incoming))
+  -- the log from there, behind the hours, is the core's
+  recorded-faithful : (h : Host) → CodedHost h → ((w : World) → boundary .lends (h .spare w)) → (ms : List Made) → AllWide ms → (incoming : List ℕ) → Bytes incoming
+      → Faithful (opening .hours) (reader opening (length rx) (h .close)) (h .end) ms incoming (logAt recorded (opening .hours) h ms (atStart incoming) (stored (start .ses)) rx msg)
+  recorded-faithful h z lends ms v incoming b =
+      rw (log-same h z lends (opening .hours) ms (atStart incoming) start inv-start b v) (begins-faithful opening rx msg least room h ms incoming)
 
 -- Any host, also one whose reads, writes and close come to faults: each call of the log is the plain reader's.
-pub every-host : EveryHost unbounded boundary
-every-host opening rec rx msg placed least room wide h z lends qs v incoming b within = recorded-faithful opening rec rx msg placed least room wide h z lends qs v incoming b
+pub every-host : EveryHost unbounded (gated boundary)
+every-host opening rec rx msg placed least room wide h z lends ms v incoming b within =
+    rw (opened opening (rec .x) rx msg placed least room wide) (
+      refl,
+      rw (log-gated recorded (opening .hours) h ms (atStart incoming) (stored (start opening (rec .x) rx msg placed least room wide .ses)) rx msg)
+          (recorded-faithful opening (rec .x) rx msg placed least room wide h z lends ms v incoming b),
+    )
 
-pub demand-3 : Claim unbounded boundary
-demand-3 = claimed unbounded boundary every-host
+pub demand-3 : Claim unbounded (gated boundary)
+demand-3 = claimed unbounded (gated boundary) every-host

@@ -1,8 +1,8 @@
 -- The log of every list of calls, made against any host through the crossings, is the core's: step by step their run goes
 -- on where the core's run does, on the session stored.
 -- Assumes nothing.
-use Prim.Native.Nat.{ℕ, zero, suc, _+_, _-_, _≤_, _<_}
-use mathlib.Core.Bool.{Bool, true, false, _&&_, and-eq-true-iff}
+use Prim.Native.Nat.{ℕ, zero, suc, _+_, _-_, _*_, _≤_, _<_}
+use mathlib.Core.Bool.{Bool, true, false, _&&_, not, and-eq-true-iff}
 use mathlib.Core.List.{List, [], _∷_, _++_}
 use mathlib.Core.Option.{Option, none, some}
 use mathlib.Core.Path.{_≡_, refl, sym, ap, _∙_, subst}
@@ -11,11 +11,13 @@ use borrow.Author.Tests.{ltb-true, leb-true}
 use lib.Dec.{ltb, leb}
 use lib.ListN.{length, take, length-append}
 use lib.Seq.{length-take-le}
-use Rattle.protocol.specs.Answers.{End, closed, error}
+use Rattle.protocol.specs.Answers.{End, closed, error, refused}
 use Rattle.protocol.specs.Bytes.{Bytes, pick, over}
-use Rattle.protocol.specs.Calls.{Call, call, nextEntry, nextChunk}
+use Rattle.protocol.specs.Calls.{Call, call, nextEntry, nextChunk, messages, Made}
+use Rattle.protocol.specs.Hours.{Hours}
 use Rattle.protocol.specs.Messages.{PathOnly, stat, sta2, list, lis2, recv, ask, rcv2, send, snd2, chunk, done, quit}
 use Rattle.protocol.specs.Reader.{Report, accepted, broke}
+use Rattle.protocol.specs.Refusal.{outside, closedHours}
 use Rattle.protocol.proofs.Bytes.{bytes-tail, bytes-drop, over-length}
 use Rattle.protocol.proofs.Words.{bytes-take}
 use Rattle.record.specs.Narrow.{U64, NarrowRequest}
@@ -29,9 +31,11 @@ use Rattle.session.specs.Core as C
 use Rattle.session.specs.Core.{askOf, faultOf, showOf, begin, core}
 use Rattle.session.specs.Demand3.{Coded, CodedFault, CodedReport, Wide, AllWide}
 use Rattle.session.specs.EveryHost.{CodedHost}
-use Rattle.session.specs.Host.{Spare, Step, Host, Ask, World, newCall, hasRead, hasStopped, composing, counted, filling, windowed, lentOf, Run, over-with, unended, grantRead, grantWrite, grantClose, granted, run, enough, runCall, Entry, onRun, logOf}
+use Rattle.session.specs.Gate.{refuses}
+use Rattle.session.specs.Host.{told, Spare, Step, Host, Ask, World, newCall, hasRead, hasStopped, composing, counted, filling, windowed, lentOf, Run, over-with, unended, grantRead, grantWrite, grantClose, granted, run, enough, Entry, onRun}
 use Rattle.session.specs.Reports.{reportRead, reportWrote, reportFault}
 use Rattle.session.specs.State.{St, st, Out, at}
+use Rattle.session.proofs.Gated.{runAt, logAt}
 use Rattle.session.proofs.Buf.{sound-of, good-at, held-came}
 use Rattle.session.proofs.Run.{length-filling}
 use Rattle.session.proofs.Turns.{held}
@@ -216,15 +220,33 @@ module _ (h : Host) (z : CodedHost h) (lends : (w : World) → boundary .lends (
   entry-same u z m k k′ on e (over-with x rx msg a w) (p, (i, b)) = ap (onRun recorded u z m k) p ∙ rw (holds-same (st x rx msg) i, tail-same (st x rx msg) i, on w (st x rx msg) i b)
   entry-same u z m k k′ on e unended p = ap (onRun recorded u z m k) p
 
-  pub log-same : (qs : List Call) (w : World) (s : St) → Inv s → Bytes (w .left) → AllWide qs
-      → logOf recorded h qs w (stored (s .ses)) (s .rx) (s .msg) ≡ logOf core h qs w (s .ses) (s .rx) (s .msg)
-  unfolding logOf
-  log-same [] w s x b v = refl
-  log-same (q ∷ qs) w s x b v =
-      let sp : Spare = h .spare w in
-      let l : U64 (length (lentOf sp q)) = lent-wide sp (lends w .1) q (v .0) in
-      let f : Fine (s .ses) (begin s q (lentOf sp q)) = begin-fine s x q (v .0) (lentOf sp q) l in
-      rw (holds-same s x, tail-same s x)
-      (entry-same (held s) (s .ses .buf .tail) (s .msg) _ _ (λ w′ s′ x′ b′. log-same qs w′ s′ x′ b′ (v .1))
-      (runCall recorded h q w (stored (s .ses)) (s .rx) (s .msg)) (runCall core h q w (s .ses) (s .rx) (s .msg))
-      (rw (start-image s x sp (lends w .0) q f) (run-same h z lends (lentOf sp q) l (enough q w) (s .ses) (newCall w) (begin s q (lentOf sp q)) f b)))
+  module _ (hours : Option Hours) where
+    abbrev shut : {X : Type 0} → X → (rx msg : List ℕ) → Step X
+    shut x rx msg = record { x = x; rx = rx; msg = msg; show = told (refused closedHours) }
+
+    -- turned away or not, by the same test
+    gate-same : (b : Bool) (q : Call) (w : World) (s : St) → Inv s → Bytes (w .left) → (lent : List ℕ) → U64 (length lent) → (o : Out) → Fine (s .ses) o
+        → Same (run recorded h lent (enough q w) (newCall w) (pick b (shut (stored (s .ses)) (s .rx) (s .msg)) (image o)))
+        (run core h lent (enough q w) (newCall w) (pick b (shut (s .ses) (s .rx) (s .msg)) (C.stepOf o)))
+    unfolding run
+    gate-same true q w s x b lent l o f =
+        let n : ℕ = length (w .left) + (5 * length (messages q) + 4) in
+        let e : enough q w ≡ suc n = omega arith in
+        rw e (refl, (x, b))
+    gate-same false q w s x b lent l o f = run-same h z lends lent l (enough q w) (s .ses) (newCall w) o f b
+
+    pub log-same : (ms : List Made) (w : World) (s : St) → Inv s → Bytes (w .left) → AllWide ms
+        → logAt recorded hours h ms w (stored (s .ses)) (s .rx) (s .msg) ≡ logAt core hours h ms w (s .ses) (s .rx) (s .msg)
+    unfolding logAt
+    log-same [] w s x b v = refl
+    log-same (m ∷ ms) w s x b v =
+        let q = m .call in
+        let sp : Spare = h .spare w in
+        let l : U64 (length (lentOf sp q)) = lent-wide sp (lends w .1) q (v .0 .0) in
+        let f : Fine (s .ses) (begin s q (lentOf sp q)) = begin-fine s x q (v .0 .0) (lentOf sp q) l in
+        rw (holds-same s x, tail-same s x)
+        (entry-same (held s) (s .ses .buf .tail) (s .msg) _ _ (λ w′ s′ x′ b′. log-same ms w′ s′ x′ b′ (v .1))
+        (runAt recorded hours h m w (stored (s .ses)) (s .rx) (s .msg)) (runAt core hours h m w (s .ses) (s .rx) (s .msg))
+        (subst (λ (t : Step (List ℕ)). Same (run recorded h (lentOf sp q) (enough q w) (newCall w) (pick (outside hours m && not (refuses (t .show))) (shut (stored (s .ses)) (s .rx) (s .msg)) t))
+        (runAt core hours h m w (s .ses) (s .rx) (s .msg))) (sym (start-image s x sp (lends w .0) m f))
+        (gate-same (outside hours m && not (refuses (C.stepOf (begin s q (lentOf sp q)) .show))) q w s x b (lentOf sp q) l (begin s q (lentOf sp q)) f)))

@@ -73,7 +73,7 @@ stepOf c = record { x = c .rec; rx = c .rx; msg = c .msg; show = heard (c .numbe
 abbrev pub recorded : Engine (List ℕ)
 recorded =
     record {
-      start = λ rec rx msg q z. stepOf (crossStart rec rx msg (lentOf z q) (callNumber q) (firstNumber z q) (flagNumber z q) (z .out));
+      start = λ rec rx msg m z. stepOf (crossStart rec rx msg (lentOf z (m .call)) (callNumber (m .call)) (firstNumber z (m .call)) (flagNumber z (m .call)) (z .out));
       onRead = λ rec rx msg lent k z. stepOf (crossRead rec rx msg lent k (z .out));
       onWrote = λ rec rx msg lent z. stepOf (crossWrote rec rx msg lent (z .out));
       onFault = λ rec rx msg lent e z. stepOf (crossFault rec rx msg lent (endKind z e) (endCode z e) (z .out));

@@ -1,5 +1,5 @@
 -- What a session's opening and its steps come to on its record of 256 bytes: the right-hand sides of their contracts, over the lent record, both
--- buffers and the slice that the reply goes to. The exported functions are these with totals (totals/specs/Crossing).
+-- buffers and the slice that the reply goes to. The exported functions are these with totals and hours (hours_totals/specs/Crossing).
 -- Assumes nothing.
 use Prim.Native.Nat.{ℕ, _+_, _-_}
 use mathlib.Core.Bool.{Bool, true, false, _&&_, _||_}

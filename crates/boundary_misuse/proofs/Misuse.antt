@@ -75,13 +75,13 @@ module _ (s : Session) (sh : Show) (own : Own s) (asked : Asked s sh) (lent rx m
   module _ (brief : ltb (length out) outSize ≡ true) where
     away : (x : Act) → crossedBy (stored s) (ev x) ≡ turnedAway (stored s) rx msg out
     unfolding crossStart crossRead crossWrote crossFault
-    away (start n a b) = rw brief
+    away (start n a b t) = rw brief
     away (report (hasRead k)) = rw brief
     away (report wrote) = rw brief
     away (report (fault kind code)) = rw brief
 
     three : (x : Act) → refusal v (ev x) ≡ some (refused 3)
-    three (start n a b) = rw brief
+    three (start n a b t) = rw brief
     three (report r) = rw brief
 
     short-holds : (x : Act) → Holds v (stored s) (ev x) (refusal v (ev x)) (crossedBy (stored s) (ev x))
@@ -119,14 +119,14 @@ module _ (s : Session) (sh : Show) (own : Own s) (asked : Asked s sh) (lent rx m
           (subst (λ (y : Option Answer). Holds v (stored s) (ev x) y (back (stored s) out o)) (sym t) (comes-holds r n g))
 
     -- a call
-    call-table : (n a b : ℕ) → refusal v (ev (start n a b)) ≡ behind s lent rx msg (numbered v (callOf n a b lent))
-    call-table n a b = rw (fits-same (start n a b), pending-is asked)
+    call-table : (n a b t : ℕ) → refusal v (ev (start n a b t)) ≡ behind s lent rx msg (numbered v (callOf n a b lent))
+    call-table n a b t = rw (fits-same (start n a b t), pending-is asked)
 
-    call-holds : (n a b : ℕ) → U32 a → U32 b
-        → Holds v (stored s) (ev (start n a b)) (refusal v (ev (start n a b))) (crossedBy (stored s) (ev (start n a b)))
+    call-holds : (n a b t : ℕ) → U32 a → U32 b
+        → Holds v (stored s) (ev (start n a b t)) (refusal v (ev (start n a b t))) (crossedBy (stored s) (ev (start n a b t)))
     unfolding crossStart
-    call-holds n a b p q =
-        holds (start n a b) (begins s lent rx msg) _ (λ y. refl) _ _ (loads here (own .narrow) out room _) (call-table n a b)
+    call-holds n a b t p q =
+        holds (start n a b t) (begins s lent rx msg) _ (λ y. refl) _ _ (loads here (own .narrow) out room _) (call-table n a b t)
         (behind-narrow s lent rx msg _ (numbered-narrow v (callOf n a b lent))) (calls s lent rx msg (own .narrow) short few bytes sh a b p q n)
 
     -- a report
@@ -140,25 +140,25 @@ module _ (s : Session) (sh : Show) (own : Own s) (asked : Asked s sh) (lent rx m
     report-crosses (fault kind code) = loads here (own .narrow) out room _
 
     event-holds : (x : Act) → WideAct x → Holds v (stored s) (ev x) (refusal v (ev x)) (crossedBy (stored s) (ev x))
-    event-holds (start n a b) (p, q) = call-holds n a b p q
+    event-holds (start n a b t) (p, (q, _)) = call-holds n a b t p q
     event-holds (report r) w =
         holds (report r) (after s sh) _ (λ y. refl) _ _ (report-crosses r) (report-table r)
         (later-narrow s lent rx msg sh r) (reports s lent rx msg (own .narrow) short few bytes sh asked r w)
 
     -- what is put back; a step that is let in keeps the session's numbers, and is no refusal
     abbrev pub outOf : Act → Out
-    outOf (start n a b) = callNumbered n a b here lent (requestNumbered n a b) (unknownCall here)
+    outOf (start n a b t) = callNumbered n a b here lent (requestNumbered n a b) (unknownCall here)
     outOf (report r) = reported s lent rx msg r
 
     pub crosses : (x : Act) → crossedBy (stored s) (ev x) ≡ back (stored s) out (outOf x)
     unfolding crossStart
-    crosses (start n a b) = loads here (own .narrow) out room _
+    crosses (start n a b t) = loads here (own .narrow) out room _
     crosses (report r) = report-crosses r
 
     pub let-in : (x : Act) → WideAct x → refusal v (ev x) ≡ none → Inv (outOf x .st) × (isRefusal (outOf x .reply) ≡ false)
-    let-in (start n a b) (p, q) z =
-        let g : Comes none (begins s lent rx msg) here (outOf (start n a b)) =
-        subst (λ (r : Option Answer). Comes r (begins s lent rx msg) here (outOf (start n a b))) (sym (call-table n a b) ∙ z) (calls s lent rx msg (own .narrow) short few bytes sh a b p q n) in
+    let-in (start n a b t) (p, (q, _)) z =
+        let g : Comes none (begins s lent rx msg) here (outOf (start n a b t)) =
+        subst (λ (r : Option Answer). Comes r (begins s lent rx msg) here (outOf (start n a b t))) (sym (call-table n a b t) ∙ z) (calls s lent rx msg (own .narrow) short few bytes sh a b p q n) in
         (g .inv, g .given)
     let-in (report r) w z =
         let g : Comes none (after s sh) here (outOf (report r)) =

@@ -97,7 +97,7 @@ numbered-narrow v (some nextChunk) = lets
 
 -- every refusal of the table has one of the numbers 1 to 11
 pub table-narrow : (v : Seen) (e : Event) (x : Act) → NarrowRefusal (refusedAt v e x)
-table-narrow v e (start n a b) =
+table-narrow v e (start n a b t) =
     or-narrow (refuse-narrow (misfits v e) (by-number {n = 3} (omega arith)))
     (or-narrow (refuse-narrow (v .ended) (by-number {n = 6} (omega arith)))
     (or-narrow (refuse-narrow (pending (v .last)) (by-number {n = 4} (omega arith))) (numbered-narrow v (callOf n a b (e .lent)))))

@@ -1,18 +1,18 @@
 -- Facts on misuse: what is answered where more than one reason is there, by "The written order becomes 1, 2, then 3, 6, 4, 5, 8, 7, 9, 10"
 -- (document 02, [6]) and "For a report: 3, 6, 5, 11" (document 01), and each reason by itself.
 -- Assumes nothing.
-use Prim.Native.Nat.{ℕ}
+use Prim.Native.Nat.{ℕ, _<_, _^_}
 use mathlib.Core.Bool.{Bool, true, false}
 use mathlib.Core.List.{List, [], _∷_, _++_, map}
 use mathlib.Core.Option.{Option, none, some}
-use lib.ListN.{replicate}
+use lib.ListN.{length, replicate}
 use Rattle.protocol.specs.Answers as A
 use Rattle.protocol.specs.Answers.{Answer, refused, missing}
-use Rattle.protocol.specs.Bytes.{ascii}
+use Rattle.protocol.specs.Bytes.{Bytes, ascii}
 use Rattle.protocol.specs.Fact.{Fact}
 use Rattle.record.specs.Record.{size}
 use Rattle.session.specs.Host.{Show, told, read, writeRx, writeLent, writeBytes, close}
-use Rattle.boundary_misuse.specs.Misuse.{Act, start, report, HostReport, hasRead, wrote, fault, Event, Seen, openRefused, refusal}
+use Rattle.boundary_misuse.specs.Misuse.{Act, start, report, HostReport, hasRead, wrote, fault, WideAct, Wide, Event, Seen, openRefused, refusal}
 use Rattle.boundary_misuse.specs.Claim.{seenAfter}
 
 -- a session opened with buffers of 16 and 20 bytes and no feature, whose last call was lent two bytes; what was last asked or told
@@ -65,34 +65,34 @@ pathCalls = 1 ∷ 2 ∷ 3 ∷ 4 ∷ 5 ∷ 6 ∷ 7 ∷ 8 ∷ []
 
 abbrev called : List (Fact (Option Answer))
 called =
-    fits idle false (start 1 0 0) none
-    ∷ row idle false (start 1 0 0) (ascii "/a/longer/path") 16 20 120 none
-    ∷ row idle false (start 1 0 0) path 16 20 200 none
+    fits idle false (start 1 0 0 0) none
+    ∷ row idle false (start 1 0 0 0) (ascii "/a/longer/path") 16 20 120 none
+    ∷ row idle false (start 1 0 0 0) path 16 20 200 none
     -- 3 before 6, 4 and 5
-    ∷ misfit idle false (start 1 0 0)
-    ++ misfit idle true (start 0 0 0)
-    ++ misfit (read 3 5) false (start 0 0 0)
+    ∷ misfit idle false (start 1 0 0 0)
+    ++ misfit idle true (start 0 0 0 0)
+    ++ misfit (read 3 5) false (start 0 0 0 0)
     -- 6 before 4 and 5; 4 before 5, whatever is asked; 5 for a number that is no call's
-    ++ fits idle true (start 0 0 0) (some (refused 6))
-    ∷ fits (read 3 5) true (start 1 0 0) (some (refused 6))
-    ∷ map (λ s. fits s false (start 0 0 0) (some (refused 4))) asks
-    ++ map (λ s. fits s false (start 1 0 0) (some (refused 4))) asks
-    ++ map (λ n. fits idle false (start n 3 3) (some (refused 5))) (0 ∷ 15 ∷ 255 ∷ 257 ∷ [])
+    ++ fits idle true (start 0 0 0 0) (some (refused 6))
+    ∷ fits (read 3 5) true (start 1 0 0 0) (some (refused 6))
+    ∷ map (λ s. fits s false (start 0 0 0 0) (some (refused 4))) asks
+    ++ map (λ s. fits s false (start 1 0 0 0) (some (refused 4))) asks
+    ++ map (λ n. fits idle false (start n 3 3 0) (some (refused 5))) (0 ∷ 15 ∷ 255 ∷ 257 ∷ [])
     -- 3, 6, 4 and 5 before 8 and 7; 8 before 7; both before 9, 9 before 10; the flags are the second number, of 6 and 8
-    ++ map (λ p. row idle true (start 6 3 3) p 15 20 120 (some (refused 3))) badPaths
-    ++ map (λ p. row idle true (start 6 3 3) p 16 20 120 (some (refused 6))) badPaths
-    ++ map (λ p. row (read 3 5) false (start 6 3 3) p 16 20 120 (some (refused 4))) badPaths
-    ++ map (λ p. row idle false (start 15 3 3) p 16 20 120 (some (refused 5))) badPaths
-    ++ map (λ n. row idle false (start n 3 3) longNul 16 20 120 (some (refused 8))) pathCalls
-    ++ map (λ n. row idle false (start n 3 3) long 16 20 120 (some (refused 7))) pathCalls
-    ++ row idle false (start 6 3 3) (0 ∷ []) 16 20 120 (some (refused 8))
-    ∷ fits idle false (start 6 0 3) (some (refused 9))
-    ∷ fits idle false (start 8 0 3) (some (refused 9))
-    ∷ fits idle false (start 6 3 0) (some (missing 3))
-    ∷ fits idle false (start 8 3 0) (some (missing 3))
-    ∷ fits idle false (start 2 3 3) (some (missing 1))
-    ∷ fits idle false (start 4 3 3) (some (missing 2))
-    ∷ map (λ n. fits idle false (start n 3 3) none) (1 ∷ 3 ∷ 5 ∷ 7 ∷ 9 ∷ 10 ∷ 11 ∷ 12 ∷ 13 ∷ 14 ∷ [])
+    ++ map (λ p. row idle true (start 6 3 3 0) p 15 20 120 (some (refused 3))) badPaths
+    ++ map (λ p. row idle true (start 6 3 3 0) p 16 20 120 (some (refused 6))) badPaths
+    ++ map (λ p. row (read 3 5) false (start 6 3 3 0) p 16 20 120 (some (refused 4))) badPaths
+    ++ map (λ p. row idle false (start 15 3 3 0) p 16 20 120 (some (refused 5))) badPaths
+    ++ map (λ n. row idle false (start n 3 3 0) longNul 16 20 120 (some (refused 8))) pathCalls
+    ++ map (λ n. row idle false (start n 3 3 0) long 16 20 120 (some (refused 7))) pathCalls
+    ++ row idle false (start 6 3 3 0) (0 ∷ []) 16 20 120 (some (refused 8))
+    ∷ fits idle false (start 6 0 3 0) (some (refused 9))
+    ∷ fits idle false (start 8 0 3 0) (some (refused 9))
+    ∷ fits idle false (start 6 3 0 0) (some (missing 3))
+    ∷ fits idle false (start 8 3 0 0) (some (missing 3))
+    ∷ fits idle false (start 2 3 3 0) (some (missing 1))
+    ∷ fits idle false (start 4 3 3 0) (some (missing 2))
+    ∷ map (λ n. fits idle false (start n 3 3 0) none) (1 ∷ 3 ∷ 5 ∷ 7 ∷ 9 ∷ 10 ∷ 11 ∷ 12 ∷ 13 ∷ 14 ∷ [])
 
 abbrev reports : List HostReport
 reports = hasRead 1 ∷ wrote ∷ fault 0 0 ∷ fault 1 7 ∷ []
@@ -183,5 +183,13 @@ afterwards =
     ∷ after (writeBytes path) (report wrote) (false, 2)
     ∷ after (writeRx 3 5) (report wrote) (false, 2)
     ∷ after (read 3 5) (report (hasRead 5)) (false, 2)
-    ∷ after idle (start 11 0 0) (false, 4)
+    ∷ after idle (start 11 0 0 0) (false, 4)
     ∷ []
+
+-- what is said of misuse is said of every number of a call, every mode, time, flag word, moment and code of 32 bits, every count, all slices of under 2^63 bytes
+pub record Widths : Type 0 where
+  pub starts : (n a b t : ℕ) → a < 2 ^ 32 → b < 2 ^ 32 → t < 2 ^ 32 → WideAct (start n a b t)
+  pub reads : (k : ℕ) → WideAct (report (hasRead k))
+  pub writes : WideAct (report wrote)
+  pub faults : (kind code : ℕ) → code < 2 ^ 32 → WideAct (report (fault kind code))
+  pub events : (e : Event) → WideAct (e .act) → length (e .lent) < 2 ^ 63 → length (e .msg) < 2 ^ 63 → length (e .out) < 2 ^ 63 → Bytes (e .rx) → Wide e

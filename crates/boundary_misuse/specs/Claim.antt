@@ -31,7 +31,7 @@ Answers none rec e c = IsRefused c → ⊥
 
 -- what the host has seen afterwards; a quit has ended once its close is reported
 abbrev pub seenAfter : Seen → Event → Act → Show → Seen
-seenAfter s e (start n a b) sh =
+seenAfter s e (start n a b t) sh =
     record { capacity = s .capacity; message = s .message; features = s .features; lent = length (e .lent); last = sh; ended = s .ended }
 seenAfter s e (report r) sh =
     record { capacity = s .capacity; message = s .message; features = s .features; lent = s .lent; last = sh; ended = closing (s .last) || s .ended }

@@ -1,3 +1,4 @@
+pub mod Functions
 pub mod Misuse
 pub mod Claim
 pub mod Settled

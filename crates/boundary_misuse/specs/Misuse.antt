@@ -19,7 +19,8 @@ use Rattle.id_table.specs.Settings.{lentIn}
 use Rattle.id_table.specs.declared.Lent.{Lent}
 use Rattle.id_table.specs.declared.Lent.the-variants as L
 use Rattle.session.specs.Host.{Show, told, read, writeRx, writeLent, writeBytes, close}
-use Rattle.boundary.specs.Crossing.{Crossed, crossStart, crossRead, crossWrote, crossFault}
+use Rattle.boundary.specs.Crossing.{Crossed}
+use Rattle.boundary_misuse.specs.Functions.{Functions, sessionFunctions}
 use Rattle.boundary.specs.Told.{outSize}
 
 -- ---- what the host does
@@ -30,9 +31,9 @@ pub data HostReport : Type 0 where
   wrote : HostReport
   fault : (kind code : ℕ) → HostReport
 
--- a call by its number, with its mode or time and its flags; or a report
+-- a call by its number, with its mode or time, its flags and its moment; or a report
 pub data Act : Type 0 where
-  start : (call a b : ℕ) → Act
+  start : (call a b moment : ℕ) → Act
   report : HostReport → Act
 
 -- .. and what it lends: a path or data, both buffers, the slice of the reply; any bytes, of any length
@@ -45,7 +46,7 @@ pub record Event : Type 0 where
 
 -- the widths of what is passed (no slice has 2^63 bytes)
 abbrev pub WideAct : Act → Type 0
-WideAct (start n a b) = (a < 2 ^ 32) × (b < 2 ^ 32)
+WideAct (start n a b t) = (a < 2 ^ 32) × ((b < 2 ^ 32) × (t < 2 ^ 32))
 WideAct (report (hasRead k)) = Unit {0}
 WideAct (report wrote) = Unit {0}
 WideAct (report (fault kind code)) = code < 2 ^ 32
@@ -62,14 +63,21 @@ AllWide [] = Unit {0}
 AllWide (e ∷ es) = Wide e × AllWide es
 
 -- what crosses, on a record
+abbrev pub actedBy : Functions → List ℕ → Event → Act → Crossed
+actedBy F rec e (start n a b t) = F .start rec (e .rx) (e .msg) (e .lent) n a b t (e .out)
+actedBy F rec e (report (hasRead k)) = F .read rec (e .rx) (e .msg) (e .lent) k (e .out)
+actedBy F rec e (report wrote) = F .wrote rec (e .rx) (e .msg) (e .lent) (e .out)
+actedBy F rec e (report (fault kind code)) = F .fault rec (e .rx) (e .msg) (e .lent) kind code (e .out)
+
+abbrev pub doneBy : Functions → List ℕ → Event → Crossed
+doneBy F rec e = actedBy F rec e (e .act)
+
+-- .. of the session alone
 abbrev pub acted : List ℕ → Event → Act → Crossed
-acted rec e (start n a b) = crossStart rec (e .rx) (e .msg) (e .lent) n a b (e .out)
-acted rec e (report (hasRead k)) = crossRead rec (e .rx) (e .msg) (e .lent) k (e .out)
-acted rec e (report wrote) = crossWrote rec (e .rx) (e .msg) (e .lent) (e .out)
-acted rec e (report (fault kind code)) = crossFault rec (e .rx) (e .msg) (e .lent) kind code (e .out)
+acted rec e a = actedBy sessionFunctions rec e a
 
 abbrev pub crossedBy : List ℕ → Event → Crossed
-crossedBy rec e = acted rec e (e .act)
+crossedBy rec e = doneBy sessionFunctions rec e
 
 -- ---- what the host has seen
 
@@ -170,7 +178,7 @@ outside sh (fault kind code) = false
 
 -- "The written order becomes 1, 2, then 3, 6, 4, 5, 8, 7, 9, 10" (document 02, [6]). "For a report: 3, 6, 5, 11" (document 01).
 abbrev pub refusedAt : Seen → Event → Act → Option Answer
-refusedAt s e (start n a b) =
+refusedAt s e (start n a b t) =
     orElse (refuse (misfits s e) (refused 3))
     (orElse (refuse (s .ended) (refused 6))
     (orElse (refuse (pending (s .last)) (refused 4)) (numbered s (callOf n a b (e .lent)))))

@@ -29,11 +29,12 @@ use Rattle.boundary.specs.Told.{replyNumber, replyBytes, outSize}
 use Rattle.boundary.proofs.Carried.{stays-read}
 use Rattle.boundary.proofs.Reports.{NarrowRefusal, lets, by-number, by-feature}
 use Rattle.boundary.proofs.Steps.{narrow-of}
+use Rattle.boundary_misuse.specs.Functions.{sessionFunctions}
 use Rattle.boundary_misuse.specs.Misuse.{HostReport, hasRead, wrote, fault, report, WideAct, callOf}
 use Rattle.boundary_misuse.proofs.Loaded.{Widths, loaded-narrow}
 use Rattle.boundary_misuse.proofs.Table.{Comes, numbered-narrow, behind-narrow, calls, misplaced, none-awaited, later, later-narrow, after, reported, reports}
 use Rattle.boundary_misuse.proofs.Unchanged.{asks, asked-of}
-use Rattle.boundary_parts.specs.Bounds.{named, toldPart, InBounds, PartsInside, sessionSteps}
+use Rattle.boundary_parts.specs.Bounds.{named, toldPart, InBounds, PartsInside}
 use Rattle.boundary_parts.proofs.Replies.{reply-in}
 
 abbrev given : Option Answer → Bool
@@ -99,11 +100,11 @@ module _ (rec rx msg lent out : List ℕ) (bytes : Bytes rec) (held : Bytes rx) 
       go z none n = tt
       go z (some s) n = f z s n
 
-pub parts-inside : PartsInside sessionSteps
+pub parts-inside : PartsInside sessionFunctions
 unfolding crossStart crossRead crossWrote crossFault
 parts-inside =
     record {
-      start = λ rec rx msg lent n a b out x y z w p q. crossing-in rec rx msg lent out x y z w _ (λ o s m.
+      start = λ rec rx msg lent n a b t out x y z w p q _. crossing-in rec rx msg lent out x y z w _ (λ o s m.
           back-in rec rx msg lent out x y z w o s _ _ _ (behind-narrow s lent rx msg _ (numbered-narrow _ (callOf n a b lent)))
           (calls s lent rx msg m (omega arith) z y (told P.done) a b p q n) (λ e. refl));
       read = λ rec rx msg lent k out x y z w. crossing-in rec rx msg lent out x y z w _ (λ o s m.

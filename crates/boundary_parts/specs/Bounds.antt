@@ -6,8 +6,9 @@ use mathlib.Core.List.{List}
 use lib.Dec.{eqb}
 use lib.ListN.{length}
 use Rattle.protocol.specs.Bytes.{Bytes, pick}
-use Rattle.boundary.specs.Crossing.{Crossed, crossStart, crossRead, crossWrote, crossFault}
+use Rattle.boundary.specs.Crossing.{Crossed}
 use Rattle.boundary.specs.Heard.{at}
+use Rattle.boundary_misuse.specs.Functions.{Functions}
 
 -- what a reply names: nothing, or a part of one of the slices, where it starts and how long it is
 pub data Part : Type 0 where
@@ -44,20 +45,10 @@ module _ (rx msg lent out : List ℕ) where
 abbrev pub InBounds : (lent : List ℕ) → Crossed → Type 0
 InBounds lent c = Inside (c .rx) (c .msg) lent (c .out) (named (c .number) (c .out))
 
--- the four functions of a session's steps, with or without totals behind it
-pub record Steps : Type 0 where
-  pub start : (rec rx msg lent : List ℕ) → (call a b : ℕ) → (out : List ℕ) → Crossed
-  pub read : (rec rx msg lent : List ℕ) → (count : ℕ) → (out : List ℕ) → Crossed
-  pub wrote : (rec rx msg lent out : List ℕ) → Crossed
-  pub fault : (rec rx msg lent : List ℕ) → (kind code : ℕ) → (out : List ℕ) → Crossed
-
-abbrev pub sessionSteps : Steps
-sessionSteps = record { start = crossStart; read = crossRead; wrote = crossWrote; fault = crossFault }
-
--- any record of bytes and any receive buffer; no slice has 2^63 bytes, and a mode, a time, flags and a code are 32 bits wide
-pub record PartsInside (F : Steps) : Type 0 where
-  pub start : (rec rx msg lent : List ℕ) (call a b : ℕ) (out : List ℕ) → Bytes rec → Bytes rx → length msg < 2 ^ 63 → length lent < 2 ^ 63
-      → a < 2 ^ 32 → b < 2 ^ 32 → InBounds lent (F .start rec rx msg lent call a b out)
+-- any record of bytes and any receive buffer; no slice has 2^63 bytes, and a mode, a time, flags, a moment and a code are 32 bits wide
+pub record PartsInside (F : Functions) : Type 0 where
+  pub start : (rec rx msg lent : List ℕ) (call a b moment : ℕ) (out : List ℕ) → Bytes rec → Bytes rx → length msg < 2 ^ 63 → length lent < 2 ^ 63
+      → a < 2 ^ 32 → b < 2 ^ 32 → moment < 2 ^ 32 → InBounds lent (F .start rec rx msg lent call a b moment out)
   pub read : (rec rx msg lent : List ℕ) (count : ℕ) (out : List ℕ) → Bytes rec → Bytes rx → length msg < 2 ^ 63 → length lent < 2 ^ 63
       → InBounds lent (F .read rec rx msg lent count out)
   pub wrote : (rec rx msg lent out : List ℕ) → Bytes rec → Bytes rx → length msg < 2 ^ 63 → length lent < 2 ^ 63

@@ -1,4 +1,4 @@
--- Demand 3 and `every-host` at a host, a banner, two tables, buffers and a list of calls, and `card` at two events: their hypotheses can be met. And logs,
+-- Demand 3 and `every-host` at a host, a banner, two tables, hours, buffers and lists of calls, and `card` at two events: their hypotheses can be met. And logs,
 -- computed, beside what the documents say.
 -- Assumes nothing.
 use Prim.Native.Nat.{ℕ, zero, suc, _<_}
@@ -12,12 +12,13 @@ use lib.Dec.{eqb, ltb}
 use lib.ListN.{length}
 use Rattle.protocol.specs.Answers.{closed, error}
 use Rattle.protocol.specs.Bytes.{Bytes, ascii, numberAt, over, put, pick}
+use Rattle.protocol.specs.Digits.{digits}
 use Rattle.protocol.specs.Reader.{accepted, writes, plainWrites}
 use Rattle.protocol.specs.Ids.{letters}
 use Rattle.protocol.proofs.Ids.{published-legal}
 use Rattle.text_lines.specs.Lines.{linesOf as cutLines}
 use Rattle.id_table.specs.IdsFile.{ids, checked, idsIn, fileWith}
-use Rattle.id_table.specs.Settings.{tableFrom, settingsOf, lentIn}
+use Rattle.id_table.specs.Settings.{tableFrom, lentIn}
 use Rattle.id_table.proofs.Laws.{id-tables}
 use Rattle.record.specs.Record.{stored, loaded}
 use Rattle.session.specs.Demand3.{Opening, CodedFault, Side, reader, logFrom, Demand3, below, Within}
@@ -25,9 +26,12 @@ use Rattle.session.specs.EveryHost.{CodedHost}
 use Rattle.session.specs.Faithful.{Faithful}
 use Rattle.boundary_misuse.specs.Misuse.{Act, start, report, hasRead, Event, WideAct, Wide, opened}
 use Rattle.totals.specs.Card.{noSums, EveryMoment}
-use Rattle.totals.specs.Crossing.{recordSize, limit, totalOpen, totalStart, totalRead, totalWrote, totalFault}
-use Rattle.totals.specs.System.{totals}
-use Rattle.protocol.specs.Calls.{Call, messages}
+use Rattle.totals.specs.Crossing.{limit, totalOpen, totalStart, totalRead, totalWrote, totalFault}
+use Rattle.hours.specs.Settings.{settingsWith, isHours}
+use Rattle.hours.specs.Slots.{slotsFrom, spansFrom, hoursOf}
+use Rattle.hours_totals.specs.Crossing.{timedSize, timedOpen, timedStart, timedRead, timedWrote, timedFault}
+use Rattle.hours_totals.specs.System.{timedFunctions, timedTotals}
+use Rattle.protocol.specs.Calls.{Made, messages}
 use Rattle.protocol.specs.Refusal.{pathRefusal, requestRefusal, refusal}
 use Rattle.protocol.specs.Features.{restAfter, split, hasFeature, featuresOf}
 use Rattle.protocol.specs.Messages.{messageOf, bytesOfRequest}
@@ -44,7 +48,7 @@ use Rattle.boundary.specs.Heard.{doneHeard, answerHeard, heard}
 use Rattle.boundary.specs.Told.{replyNumber, replyBytes}
 use Rattle.recv_buf.specs.RecvBuf.{heldBytes, compacted}
 use Rattle.request_piece.specs.Pieces.{pieceList, pieceOf}
-use Rattle.claims.specs.Example.{banner, small, replied, calls, dirty, host, linesOf, logged, stumbling, twice, stumbled}
+use Rattle.claims.specs.Example.{banner, small, replied, calls, dirty, host, linesOf, logged, stumbling, twice, stumbled, thursdays, pushes, turned}
 use Rattle.claims.proofs.Claims.{demand-3, every-host, card}
 
 abbrev pub allBytes : List ℕ → Bool
@@ -58,10 +62,10 @@ below-bytes (x ∷ s) e (suc i) = below-bytes s (and-eq-true-iff (ltb x 256) (al
 
 -- a receive buffer of c bytes, with these incoming
 module _ (c : ℕ) (incoming : List ℕ) where
-  abbrev pub side : length (dirty c) ≡ c → length (dirty c) < 0x1_0000 → allBytes incoming ≡ true → Side totals c accepted
+  abbrev pub side : length (dirty c) ≡ c → length (dirty c) < 0x1_0000 → allBytes incoming ≡ true → Side timedTotals c accepted
   side l w b =
       record {
-        x = dirty recordSize;
+        x = dirty timedSize;
         placed = refl;
         rx = dirty c;
         msg = dirty c;
@@ -80,41 +84,61 @@ module _ (c : ℕ) (incoming : List ℕ) where
 
 -- the published ids, and others from a file
 abbrev pub publishing : Opening
-publishing = record { banner = banner; table = letters; legal = published-legal }
+publishing = record { banner = banner; table = letters; legal = published-legal; hours = none; kept = tt }
 
 pub small-read : idsIn (fileWith small) ≡ ids small
 unfolding idsIn cutLines checked
 small-read = refl
 
 abbrev pub lowering : Opening
-lowering = record { banner = banner; table = tableFrom small; legal = id-tables .only (fileWith small) small small-read .legal }
+lowering = record { banner = banner; table = tableFrom small; legal = id-tables .only (fileWith small) small small-read .legal; hours = none; kept = tt }
 
-abbrev pub A : (statId : List ℕ) → allBytes (replied statId) ≡ true → Side totals 16 accepted
+abbrev pub A : (statId : List ℕ) → allBytes (replied statId) ≡ true → Side timedTotals 16 accepted
 A i b = side 16 (replied i) refl (omega arith) b
 
-abbrev pub B : (statId : List ℕ) → allBytes (replied statId ++ 0xFF ∷ []) ≡ true → Side totals 20 accepted
+abbrev pub B : (statId : List ℕ) → allBytes (replied statId ++ 0xFF ∷ []) ≡ true → Side timedTotals 20 accepted
 B i b = side 20 (replied i ++ 0xFF ∷ []) refl (omega arith) b
 
 -- fewer bytes than a total's limit come and are written
-abbrev Few : Opening → (c : ℕ) → List Call → (incoming : List ℕ) → Type 0
-Few o c qs incoming = Within (below limit) (reader o c accepted) qs incoming
+abbrev Few : Opening → (c : ℕ) → List Made → (incoming : List ℕ) → Type 0
+Few o c ms incoming = Within (below limit) (o .hours) (reader o c accepted) ms incoming
 
 applied : (o : Opening) (i : List ℕ) (a : allBytes (replied i) ≡ true) (b : allBytes (replied i ++ 0xFF ∷ []) ≡ true)
-    → Few o 16 calls (replied i) → Few o 20 calls (replied i ++ 0xFF ∷ []) → Demand3 totals o accepted calls 16 20 (A i a) (B i b)
-applied o i a b f g = demand-3 o accepted calls 16 20 (omega arith) (omega arith) tt (omega arith, (tt, tt)) (A i a) (B i b) (0xFF ∷ []) refl f g
+    → Few o 16 calls (replied i) → Few o 20 calls (replied i ++ 0xFF ∷ []) → Demand3 timedTotals o accepted calls 16 20 (A i a) (B i b)
+applied o i a b f g = demand-3 o accepted calls 16 20 (omega arith) (omega arith) tt (omega arith, (omega arith, tt)) (A i a) (B i b) (0xFF ∷ []) refl f g
 
-pub applied-published : Demand3 totals publishing accepted calls 16 20 (A (ascii "STAT") refl) (B (ascii "STAT") refl)
+pub applied-published : Demand3 timedTotals publishing accepted calls 16 20 (A (ascii "STAT") refl) (B (ascii "STAT") refl)
 unfolding plainWrites writes refusal requestRefusal pathRefusal messages messageOf bytesOfRequest
 applied-published = applied publishing (ascii "STAT") refl refl (omega arith, omega arith) (omega arith, omega arith)
 
-pub applied-lowered : Demand3 totals lowering accepted calls 16 20 (A (ascii "stat") refl) (B (ascii "stat") refl)
+pub applied-lowered : Demand3 timedTotals lowering accepted calls 16 20 (A (ascii "stat") refl) (B (ascii "stat") refl)
 unfolding plainWrites writes refusal requestRefusal pathRefusal messages messageOf bytesOfRequest
 applied-lowered = applied lowering (ascii "stat") refl refl (omega arith, omega arith) (omega arith, omega arith)
+
+-- Thursdays are open: a push of a Friday is turned away, and one of a Thursday goes out
+abbrev working : Opening
+working =
+    record {
+      banner = banner;
+      table = letters;
+      legal = published-legal;
+      hours = thursdays;
+      kept = record { spans = ((omega arith, (omega arith, omega arith)), tt); rises = tt };
+    }
+
+abbrev hourly : Side timedTotals 16 accepted
+hourly = side 16 [] refl (omega arith) refl
+
+pub applied-hourly : Demand3 timedTotals working accepted pushes 16 20 hourly (side 20 (0xFF ∷ []) refl (omega arith) refl)
+unfolding plainWrites writes refusal requestRefusal pathRefusal messages messageOf bytesOfRequest digits
+applied-hourly =
+    demand-3 working accepted pushes 16 20 (omega arith) (omega arith) tt (omega arith, (omega arith, tt)) hourly (side 20 (0xFF ∷ []) refl (omega arith) refl)
+    (0xFF ∷ []) refl (omega arith, omega arith) (omega arith, omega arith)
 
 -- the other host
 abbrev pub log : Opening → (statId : List ℕ) → List Entry
 log o i =
-    logOf (totals .engine) stumbling twice (atStart (replied i)) (totals .opened (dirty recordSize) o (dirty 16) (dirty 16) .x) (dirty 16) (dirty 16)
+    logOf (timedTotals .engine) stumbling twice (atStart (replied i)) (timedTotals .opened (dirty timedSize) o (dirty 16) (dirty 16) .x) (dirty 16) (dirty 16)
 
 pub coded : CodedHost stumbling
 coded = record { reads = λ i. reads-coded (eqb i 8); writes = λ i. tt; close = tt; end = tt }
@@ -123,16 +147,16 @@ coded = record { reads = λ i. reads-coded (eqb i 8); writes = λ i. tt; close =
     reads-coded true = omega arith
     reads-coded false = tt
 
-goes-on : (o : Opening) (i : List ℕ) → allBytes (replied i) ≡ true → Few o 16 twice (replied i) → Faithful (reader o 16 accepted) closed twice (replied i) (log o i)
+goes-on : (o : Opening) (i : List ℕ) → allBytes (replied i) ≡ true → Few o 16 twice (replied i) → Faithful (o .hours) (reader o 16 accepted) closed twice (replied i) (log o i)
 goes-on o i b f =
-    every-host o (dirty recordSize) (dirty 16) (dirty 16) refl (omega arith) (omega arith) (omega arith) stumbling coded (λ w. (omega arith, omega arith))
+    every-host o (dirty timedSize) (dirty 16) (dirty 16) refl (omega arith) (omega arith) (omega arith) stumbling coded (λ w. (omega arith, omega arith))
     twice (omega arith, (omega arith, tt)) (replied i) (below-bytes (replied i) b) f .1
 
-pub published-goes-on : Faithful (reader publishing 16 accepted) closed twice (replied (ascii "STAT")) (log publishing (ascii "STAT"))
+pub published-goes-on : Faithful none (reader publishing 16 accepted) closed twice (replied (ascii "STAT")) (log publishing (ascii "STAT"))
 unfolding plainWrites writes refusal requestRefusal pathRefusal messages messageOf bytesOfRequest
 published-goes-on = goes-on publishing (ascii "STAT") refl (omega arith, omega arith)
 
-pub lowered-goes-on : Faithful (reader lowering 16 accepted) closed twice (replied (ascii "stat")) (log lowering (ascii "stat"))
+pub lowered-goes-on : Faithful none (reader lowering 16 accepted) closed twice (replied (ascii "stat")) (log lowering (ascii "stat"))
 unfolding plainWrites writes refusal requestRefusal pathRefusal messages messageOf bytesOfRequest
 lowered-goes-on = goes-on lowering (ascii "stat") refl (omega arith, omega arith)
 
@@ -144,16 +168,19 @@ wide : (a : Act) → WideAct a → Wide (started a)
 wide a w = record { act = w; lent = omega arith; msg = omega arith; out = omega arith; rx = below-bytes (dirty 16) refl }
 
 abbrev events : List Event
-events = started (start 1 0 0) ∷ started (report (hasRead 0)) ∷ []
+events = started (start 1 0 0 0) ∷ started (report (hasRead 0)) ∷ []
 
-pub carded : EveryMoment (opened banner 16 16) noSums (totalOpen (dirty recordSize) (settingsOf letters) banner 16 16 .rec) events
-unfolding totalOpen crossOpen openRefusal lentIn checked settingsOf
-carded = card (dirty recordSize) (settingsOf letters) banner 16 16 (omega arith) refl events (wide (start 1 0 0) (omega arith, omega arith), (wide (report (hasRead 0)) tt, tt))
+pub carded : EveryMoment timedFunctions none (opened banner 16 16) noSums (timedOpen (dirty timedSize) (settingsWith letters none) banner 16 16 .rec) events
+unfolding timedOpen settingsWith hoursOf isHours totalOpen crossOpen openRefusal lentIn checked
+carded =
+    card (dirty timedSize) (settingsWith letters none) banner 16 16 (omega arith) refl events
+    (wide (start 1 0 0 0) (omega arith, (omega arith, omega arith)), (wide (report (hasRead 0)) tt, tt))
 
--- both logs, computed, under either table
-pub logs-shown : (map linesOf (logFrom totals publishing calls (A (ascii "STAT") refl)) ≡ logged (ascii "STAT") (ascii "QUIT"))
+-- the logs, computed, under either table, and with hours
+pub logs-shown : (map linesOf (logFrom timedTotals publishing calls (A (ascii "STAT") refl)) ≡ logged (ascii "STAT") (ascii "QUIT"))
     × (map linesOf (log publishing (ascii "STAT")) ≡ stumbled (ascii "STAT"))
-    × (map linesOf (logFrom totals lowering calls (A (ascii "stat") refl)) ≡ logged (ascii "stat") (ascii "STAT"))
+    × (map linesOf (logFrom timedTotals lowering calls (A (ascii "stat") refl)) ≡ logged (ascii "stat") (ascii "STAT"))
     × (map linesOf (log lowering (ascii "stat")) ≡ stumbled (ascii "stat"))
-unfolding totalOpen totalStart totalRead totalWrote totalFault numberAt over put messages pathRefusal requestRefusal restAfter split hasFeature featuresOf messageOf bytesOfRequest statAt openRefusal misfit callRefusal startCall run logOf wants headed turnAt reportRefusal readIn readAt reportRead wroteAt reportWrote asked kept hopped pumped carried messageOut sent resumed wroteOn fields sessionOf known stored loaded crossOpen crossStart crossRead crossWrote doneHeard answerHeard heard replyNumber replyBytes heldBytes compacted pieceList pieceOf crossFault reportFault faultAt settingsOf lentIn checked
-logs-shown = (refl, refl, refl, refl)
+    × (map linesOf (logFrom timedTotals working pushes hourly) ≡ turned)
+unfolding timedOpen timedStart timedRead timedWrote timedFault settingsWith slotsFrom spansFrom hoursOf isHours totalOpen totalStart totalRead totalWrote totalFault numberAt over put messages pathRefusal requestRefusal restAfter split hasFeature featuresOf messageOf bytesOfRequest statAt openRefusal misfit callRefusal startCall run logOf wants headed turnAt reportRefusal readIn readAt reportRead wroteAt reportWrote asked kept hopped pumped carried messageOut sent resumed wroteOn fields sessionOf known stored loaded crossOpen crossStart crossRead crossWrote doneHeard answerHeard heard replyNumber replyBytes heldBytes compacted pieceList pieceOf crossFault reportFault faultAt lentIn checked digits
+logs-shown = (refl, refl, refl, refl, refl)

@@ -4,14 +4,15 @@ use Prim.Native.Nat.{ℕ, _+_, _≤_, _<_}
 use mathlib.Core.Bool.{Bool, true, false}
 use mathlib.Core.List.{List, [], _∷_, _++_, map}
 use mathlib.Core.Logic.{_⊎_}
-use mathlib.Core.Option.{none, some}
-use mathlib.Core.Path.{_≡_}
+use mathlib.Core.Option.{Option, none, some}
+use mathlib.Core.Path.{_≡_, refl}
 use lib.ListN.{length, getD, take, drop}
 use Rattle.protocol.specs.Answers as A
 use Rattle.protocol.specs.Answers.{End}
 use Rattle.protocol.specs.Banners as BannerFacts
 use Rattle.protocol.specs.Bytes.{Bytes, ascii, has, put}
-use Rattle.protocol.specs.Calls.{Call, messages}
+use Rattle.protocol.specs.Calls.{Call, messages, Made}
+use Rattle.protocol.specs.Hours.{Hours, Kept}
 use Rattle.protocol.specs.Refusal.{Setting, requestRefusal, refusal}
 use Rattle.protocol.specs.Decimal.{decimal, canonical}
 use Rattle.protocol.specs.Fact.{Hold}
@@ -25,8 +26,10 @@ use Rattle.protocol.specs.Limits as LimitFacts
 use Rattle.protocol.specs.Losses as LossFacts
 use Rattle.protocol.specs.Messages.{Request, send, chunk, snd2, joined, bytesOfRequest, pieces, HostWrites}
 use Rattle.protocol.specs.Modes.{modeIn, octal, InOctal}
+use Rattle.protocol.specs.Moments as MomentFacts
 use Rattle.protocol.specs.Numbers as NumberFacts
-use Rattle.protocol.specs.Reader.{Config, plainAnswers, plainWrites}
+use Rattle.protocol.specs.Reader as Plain
+use Rattle.protocol.specs.Reader.{Config, writes, plainCall, plainMade, writesMade, plainAnswers, plainWrites}
 use Rattle.protocol.specs.Received as ReceiveFacts
 use Rattle.protocol.specs.Records.{idAt, argAt}
 use Rattle.protocol.specs.Refusals.{Row, rows, settingAt, PathsRefused}
@@ -44,6 +47,7 @@ use Rattle.protocol.proofs.Limits as Limits
 use Rattle.protocol.proofs.Losses as Losses
 use Rattle.protocol.proofs.Messages as Messages
 use Rattle.protocol.proofs.Modes as Modes
+use Rattle.protocol.proofs.Moments as Moments
 use Rattle.protocol.proofs.Numbers as Numbers
 use Rattle.protocol.proofs.Received as Received
 use Rattle.protocol.proofs.Refusals as Refusals
@@ -70,9 +74,23 @@ use Rattle.text_lines.proofs.Lines as Lines
 use Rattle.id_table.specs.Claim.{IdTables}
 use Rattle.id_table.specs.Facts as IdFacts
 use Rattle.id_table.specs.IdsFile.{ids, idsIn}
-use Rattle.id_table.specs.Settings.{tableFrom, settingsOf}
+use Rattle.id_table.specs.Settings.{tableFrom, lentIn}
+use Rattle.id_table.specs.declared.Lent.the-variants as Lent
 use Rattle.id_table.proofs.Facts as IdRows
 use Rattle.id_table.proofs.Laws as Tables
+use Rattle.hours.specs.Claim.{HoursFiles}
+use Rattle.hours.specs.Facts as HourFacts
+use Rattle.hours.specs.File.{hoursIn}
+use Rattle.hours.specs.Settings.{hoursBytesIn, settingsWith, loadedHours}
+use Rattle.hours.specs.Slots.{hoursBytes, SlotsClaim}
+use Rattle.hours.proofs.Facts as HourRows
+use Rattle.hours.proofs.Laws as Hourly
+use Rattle.hours.proofs.Slots as Slots
+use Rattle.calendar.specs.Claim.{Calendar, Dating}
+use Rattle.calendar.specs.Facts as DateFacts
+use Rattle.calendar.proofs.Calendar as Days
+use Rattle.calendar.proofs.Crossing as Dates
+use Rattle.calendar.proofs.Facts as DateRows
 use Rattle.recv_buf.specs.RecvBuf.{heldCount, heldBytes, taken, filled, compacted, holding}
 use Rattle.recv_buf.specs.declared.RecvBuf.{RecvBuf}
 use Rattle.recv_buf.proofs.Laws as Buffer
@@ -89,6 +107,7 @@ use Rattle.request_reader.proofs.Answers as Reading
 use Rattle.session.specs.Core.{showOf, coreSystem}
 use Rattle.session.specs.Demand3.{unbounded, below, Claim}
 use Rattle.session.specs.EveryHost.{EveryHost}
+use Rattle.session.specs.Gate.{gated}
 use Rattle.session.specs.Places as PlaceFacts
 use Rattle.session.specs.Examples.{Examples}
 use Rattle.session.specs.Resuming as ResumeFacts
@@ -113,22 +132,27 @@ use Rattle.boundary.proofs.Heard as Heard
 use Rattle.boundary.proofs.Narrow.{NarrowReply}
 use Rattle.boundary_parts.specs.Bounds.{PartsInside}
 use Rattle.boundary_misuse.specs.Cases as CaseFacts
+use Rattle.boundary_misuse.specs.Misuse.{doneBy}
 use Rattle.boundary_misuse.specs.Settled.{SettledClaim}
 use Rattle.boundary_misuse.proofs.Cases as Cases
-use Rattle.totals.specs.Card.{totalBy, CardClaim}
-use Rattle.totals.specs.Claim.{totalSteps, MisuseClaim, CountTold}
-use Rattle.totals.specs.Crossing.{limit, totalOpen}
+use Rattle.totals.specs.Crossing.{limit}
 use Rattle.totals.specs.Facts as CardFacts
 use Rattle.totals.specs.Logged.{CardLogged, SideCards}
 use Rattle.totals.specs.Replied.{ReadsTold, SideTold}
-use Rattle.totals.specs.System.{totals}
-use Rattle.totals.proofs.Card as Card
-use Rattle.totals.proofs.Carried as Carried
-use Rattle.totals.proofs.Claim as Misuse
 use Rattle.totals.proofs.Facts as CardRows
-use Rattle.totals.proofs.Layer as Layer
-use Rattle.totals.proofs.Logged as Logged
-use Rattle.totals.proofs.Replied as Replied
+use Rattle.hours_totals.specs.Claim.{TimedCard, TimedMisuse, TimedCount, HoursKept}
+use Rattle.hours_totals.specs.Crossing.{timedOpen}
+use Rattle.hours_totals.specs.Facts as TimedFacts
+use Rattle.hours_totals.specs.Refusals as ClosedFacts
+use Rattle.hours_totals.specs.System.{timedFunctions, timedTotals}
+use Rattle.hours_totals.proofs.Card as Card
+use Rattle.hours_totals.proofs.Claim as Timed
+use Rattle.hours_totals.proofs.Facts as TimedRows
+use Rattle.hours_totals.proofs.Logged as Logged
+use Rattle.hours_totals.proofs.Misuse as Misuse
+use Rattle.hours_totals.proofs.Refusals as ClosedRows
+use Rattle.hours_totals.proofs.Replied as Replied
+use Rattle.hours_totals.proofs.Steps as Steps
 use Rattle.time_index.specs.Claim.{IndexClaim}
 use Rattle.time_index.specs.Facts as IndexFacts
 use Rattle.time_index.specs.Logged.{LoggedClaim}
@@ -150,82 +174,109 @@ use Rattle.claims.proofs.WholeSlots as SlotRows
 -- ---- the exported functions
 
 -- demand 3, sentence by sentence (session/specs/Demand3), of sessions that receive and write fewer than 2^64 bytes
-pub demand-3 : Claim (below limit) totals
-demand-3 = Layer.demand-3-totals
+pub demand-3 : Claim (below limit) timedTotals
+demand-3 = Timed.demand-3-timed
 
 -- any host, also one whose reads, writes and close come to faults (session/specs/EveryHost, Faithful)
-pub every-host : EveryHost (below limit) totals
-every-host = Layer.every-host-totals
+pub every-host : EveryHost (below limit) timedTotals
+every-host = Timed.every-host-timed
 
 -- ... the reads of each call: as many as the plain reader counts, given how long each was; and but for 12 and 13 at most 8 more than the bytes that
 -- it consumed (session_reads/specs/Counted, over protocol_reads/specs/Reads)
-pub every-read : EveryRead (below limit) totals
-every-read = Carried.every-read-totals
+pub every-read : EveryRead (below limit) timedTotals
+every-read = Timed.every-read-timed
 
 -- ... of a side of demand 3, in one list
-pub side-reads : SideReads (below limit) totals
-side-reads = Carried.side-reads-totals
+pub side-reads : SideReads (below limit) timedTotals
+side-reads = Timed.side-reads-timed
 
 -- "Carry in each finished call's answer how many reads it accepted, one that reports an error not counted": the reads in the last reply of each call are those that
 -- the log has of it, of a refused call none (totals/specs/Replied)
-pub reads-told : ReadsTold
+pub reads-told : ReadsTold timedFunctions timedTotals
 reads-told = Replied.reads-told
 
 -- ... "equal to the count in the reader's definition under the given read lengths": of a side of demand 3, in one list
-pub side-told : SideTold
+pub side-told : SideTold timedFunctions timedTotals
 side-told = Replied.side-told
 
 -- files of ids: every table's loads, no other does, and what is loaded or lent is what a session keeps (id_table/specs/Claim)
 pub id-tables : IdTables
 id-tables = Tables.id-tables
 
--- settings that a file was loaded into open as its table
-pub loaded-opens : (settings file : List ℕ) → crossIds settings file .1 ≡ 0 → (values : List (List ℕ)) × (idsIn file ≡ ids values)
-    × ((rec banner : List ℕ) (rx msg : ℕ) → totalOpen rec (crossIds settings file .0) banner rx msg ≡ totalOpen rec (settingsOf (tableFrom values)) banner rx msg)
+-- files of hours: every legal hours' loads, no other does; "the old hours kept"; hours and ids are loaded each beside the other (hours/specs/Claim)
+pub hours-files : HoursFiles
+hours-files = Hourly.hours-files
+
+-- ... as 32 bytes, and back (hours/specs/Slots)
+pub hours-bytes : SlotsClaim
+hours-bytes = Slots.slots
+
+-- settings that a file was loaded into open as its table, with the hours that stand there
+pub loaded-opens : (settings file : List ℕ) → crossIds settings file .1 ≡ 0 → (h : Option Hours) → Kept h → hoursBytesIn settings ≡ hoursBytes h
+    → (values : List (List ℕ)) × (idsIn file ≡ ids values)
+    × ((rec banner : List ℕ) (rx msg : ℕ) → timedOpen rec (crossIds settings file .0) banner rx msg ≡ timedOpen rec (settingsWith (tableFrom values) h) banner rx msg)
 loaded-opens = Loading.loaded-opens
+
+-- ... and as its hours, with the table that stands there
+pub hours-loaded-open : (settings file : List ℕ) → loadedHours settings file .1 ≡ 0 → (t : Table) → Legal t → lentIn settings ≡ Lent.Ids (idsOf t)
+    → (h : Hours) × (hoursIn file ≡ some h)
+    × ((rec banner : List ℕ) (rx msg : ℕ) → timedOpen rec (loadedHours settings file .0) banner rx msg ≡ timedOpen rec (settingsWith t (some h)) banner rx msg)
+hours-loaded-open = Loading.hours-loaded-open
+
+-- "give the Gregorian date of each moment, and show that dates and day numbers determine each other" (calendar/specs/Claim): of every day number; and of the bytes
+-- that a host reads
+pub calendar : Calendar
+calendar = Days.calendar
+
+pub dating : Dating
+dating = Dates.dating
 
 -- an index beside a listing, of every list of replies: what it holds, what it answers, what it turns away (time_index/specs/Claim)
 pub index-claim : IndexClaim
 index-claim = Indexed.index-claim
 
 -- ... and beside demand 3's logs: it holds what the plain reader's answers make it hold (time_index/specs/Logged)
-pub index-logged : LoggedClaim (below limit) totals
-index-logged = IndexLogged.logged-claim (below limit) totals demand-3
+pub index-logged : LoggedClaim (below limit) timedTotals
+index-logged = IndexLogged.logged-claim (below limit) timedTotals demand-3
 
 -- the panel's side: every reply is said under every table, but for those that are too long; what is said is read back by the calls that it
 -- belongs to, however the cable cuts it; and what a host writes is heard (panel_side/specs/Claim)
-pub panel-claim : PanelClaim (below limit) totals
-panel-claim = ReadBack.panel-claim (below limit) totals demand-3
+pub panel-claim : PanelClaim (below limit) timedTotals
+panel-claim = ReadBack.panel-claim (below limit) timedTotals demand-3
 
--- every list of calls and reports: what is misplaced is refused by the table, then 21, and nothing else is; and the record shows the totals at
--- every moment (totals/specs/Card)
-pub card : CardClaim
-card = Card.card
+-- every list of calls and reports: what is misplaced is refused by the table, then 25 of a push start outside the hours, 21 of a report, and nothing else is; and the
+-- record shows the totals at every moment (totals/specs/Card)
+pub card : TimedCard
+card = Card.timed-card
 
 -- ... and when a call of a log is over: received is what has come, consumed what the plain reader leaves no longer unread, written the length of what went out, and
 -- the reads those of the call (totals/specs/Logged)
-pub card-logged : CardLogged
+pub card-logged : CardLogged timedFunctions timedTotals
 card-logged = Logged.card-logged
 
 -- ... of a side of demand 3, as the plain reader has it
-pub side-cards : SideCards
+pub side-cards : SideCards timedFunctions timedTotals
 side-cards = Logged.side-cards
 
 -- the reads in a reply that tells an answer are the record's, and a refusal has none, on any record (totals/specs/Claim)
-pub count-told : CountTold
-count-told = Misuse.count-told
+pub count-told : TimedCount
+count-told = Steps.count-told
 
--- opening, by its table; the calls by their numbers; a refusal leaves any record unchanged (totals/specs/Claim)
-pub misuse : MisuseClaim
-misuse = Misuse.misuse
+-- opening, by its table, 24 behind it; the calls by their numbers; a refusal leaves any record unchanged (totals/specs/Claim)
+pub misuse : TimedMisuse
+misuse = Misuse.timed-misuse
 
 -- no call and no report writes over what opening wrote: both lengths, the features, the ids (boundary_misuse/specs/Settled)
-pub settled-stays : SettledClaim totalBy
-settled-stays = Misuse.settled-stays-totals
+pub settled-stays : SettledClaim (doneBy timedFunctions)
+settled-stays = Steps.settled-stays
+
+-- ... "A session keeps the hours it opened with" (hours_totals/specs/Claim)
+pub hours-kept : HoursKept
+hours-kept = Steps.hours-kept
 
 -- no reply names a part outside its slice, whoever wrote the record (boundary_parts/specs/Bounds)
-pub parts-inside : PartsInside totalSteps
-parts-inside = Misuse.parts-inside-totals
+pub parts-inside : PartsInside timedFunctions
+parts-inside = Steps.parts-inside
 
 -- what the host hears of a reply, in any slice that holds one, is what the reply says
 pub heard-told : (out : List ℕ) → outSize ≤ length out → (c l : ℕ) → U64 c → U64 l → (rx msg : List ℕ) (r : Reply) → NarrowReply c l r
@@ -236,15 +287,15 @@ heard-told = Heard.heard-told
 pub loaded-stored : (s : Session) → Narrow s → loaded (stored s) ≡ some s
 loaded-stored = Stored.loaded-stored
 
--- ---- the session's own steps
+-- ---- the session's own steps, behind the gate (session/specs/Gate)
 
-pub core-claim : Claim unbounded coreSystem
+pub core-claim : Claim unbounded (gated coreSystem)
 core-claim = Core.core-claim
 
-pub core-hosts : EveryHost unbounded coreSystem
+pub core-hosts : EveryHost unbounded (gated coreSystem)
 core-hosts = Core.core-hosts
 
-pub core-reads : EveryRead unbounded coreSystem
+pub core-reads : EveryRead unbounded (gated coreSystem)
 core-reads = CoreReads.core-reads
 
 -- ---- the plain reader's reads
@@ -256,21 +307,29 @@ reads-ceiling = Ceiling.reads-ceiling
 
 -- ---- two plain readers, with capacities c ≤ d
 
-pub before : (d : ℕ) (e e′ : End) (x : List ℕ) (g : Config) (qs : List Call) (u : List ℕ) → 8 ≤ g .capacity → g .capacity ≤ d
-    → (k : ℕ) → k < length qs → Unstopped (plainAnswers g e qs u) k
-    → Like (g .capacity) (argAt (unreadAt g e qs u k)) (getD (plainAnswers g e qs u) k A.done) (getD (plainAnswers (widen d g) e′ qs (u ++ x)) k A.done)
+pub before : (d : ℕ) (e e′ : End) (x : List ℕ) (h : Option Hours) (g : Config) (ms : List Made) (u : List ℕ) → 8 ≤ g .capacity → g .capacity ≤ d
+    → (k : ℕ) → k < length ms → Unstopped (plainAnswers h g e ms u) k
+    → Like (g .capacity) (argAt (unreadAt h g e ms u k)) (getD (plainAnswers h g e ms u) k A.done) (getD (plainAnswers h (widen d g) e′ ms (u ++ x)) k A.done)
 before = Wider.before
 
-pub uncut : (d : ℕ) (e e′ : End) (x : List ℕ) (g : Config) (qs : List Call) (u : List ℕ) → 8 ≤ g .capacity → g .capacity ≤ d
-    → (k : ℕ) → k < length qs → Unstopped (plainAnswers g e qs u) k → argAt (unreadAt g e qs u k) ≤ g .capacity
-    → getD (plainAnswers g e qs u) k A.done ≡ getD (plainAnswers (widen d g) e′ qs (u ++ x)) k A.done
+pub uncut : (d : ℕ) (e e′ : End) (x : List ℕ) (h : Option Hours) (g : Config) (ms : List Made) (u : List ℕ) → 8 ≤ g .capacity → g .capacity ≤ d
+    → (k : ℕ) → k < length ms → Unstopped (plainAnswers h g e ms u) k → argAt (unreadAt h g e ms u k) ≤ g .capacity
+    → getD (plainAnswers h g e ms u) k A.done ≡ getD (plainAnswers h (widen d g) e′ ms (u ++ x)) k A.done
 uncut = Wider.uncut
 
-pub writes-same : (g : Config) (d : ℕ) (qs : List Call) → plainWrites (widen d g) qs ≡ plainWrites g qs
+pub writes-same : (h : Option Hours) (g : Config) (d : ℕ) (ms : List Made) → plainWrites h (widen d g) ms ≡ plainWrites h g ms
 writes-same = Wider.writes-same
 
-pub answers-length : (g : Config) (e : End) (qs : List Call) (u : List ℕ) → length (plainAnswers g e qs u) ≡ length qs
+pub answers-length : (h : Option Hours) (g : Config) (e : End) (ms : List Made) (u : List ℕ) → length (plainAnswers h g e ms u) ≡ length ms
 answers-length = Wider.answers-length
+
+-- every call meets its refusals in their order, 25 behind 6 to 10, and is answered and written by no other (protocol/specs/Moments)
+pub meets-refusals : (h : Option Hours) (g : Config) (e : End) (m : Made) (u : List ℕ) → MomentFacts.MeetsRefusals h g e m u
+meets-refusals = Moments.meets-refusals
+
+-- "or none, when every moment will do": a call is then as it is without a moment
+pub no-hours : (g : Config) (e : End) (m : Made) (u : List ℕ) → (plainMade none g e m u ≡ plainCall g e Plain.accepted (m .call) u) × (writesMade none g m ≡ writes g (m .call))
+no-hours g e m u = (refl, refl)
 
 -- ---- the panel's request reader, for any ids that are apart
 
@@ -432,8 +491,8 @@ pub read-back-holds : Hold ReadBackFacts.capacities × Hold ReadBackFacts.answer
 read-back-holds = (ReadBackRows.capacities-hold, ReadBackRows.answers-hold)
 
 -- reads: of lists of calls, of writes that are not accepted, which answers come by the link, the ceiling; of logs
-pub counts-hold : Hold CountFacts.turns × Hold CountFacts.ceilings × Hold CountFacts.broken × Hold CountFacts.endings × CountFacts.Ceilings
-counts-hold = (CountRows.turns-hold, CountRows.ceilings-hold, CountRows.broken-hold, CountRows.endings-hold, CountRows.ceilings-mean)
+pub counts-hold : Hold CountFacts.turns × Hold CountFacts.ceilings × Hold CountFacts.broken × Hold CountFacts.turnedAway × Hold CountFacts.endings × CountFacts.Ceilings
+counts-hold = (CountRows.turns-hold, CountRows.ceilings-hold, CountRows.broken-hold, CountRows.turned-away-hold, CountRows.endings-hold, CountRows.ceilings-mean)
 
 pub logged-reads : Hold ReadsFacts.reads × ReadsFacts.Counting × ReadsFacts.Ceiling
 logged-reads = (ReadsRows.reads-hold, ReadsRows.counting, ReadsRows.ceiling)
@@ -460,6 +519,46 @@ plain-cards-hold = (CardRows.plains-hold, CardRows.showings-hold)
 -- ... what shows the sums and what does not, at any moment and when a call is over; how many bytes the comparisons' bound lets through
 pub card-words : CardFacts.Shown × CardFacts.Momentary × CardFacts.Ended × CardFacts.Bounded
 card-words = (CardRows.shown, CardRows.momentary, CardRows.ended, CardRows.bounded)
+
+-- moments within hours and outside them, and 25 in the order of refusals; a list of calls as they are made, its answers and its bytes
+pub hours-hold : Hold MomentFacts.moments × Hold MomentFacts.order × Hold MomentFacts.answered × Hold MomentFacts.wrote
+hours-hold = (Moments.moments-hold, Moments.order-holds, Moments.answered-hold, Moments.wrote-hold)
+
+-- ... of every call at every moment: 25 of every push start outside the hours, behind all else, and of no other call (protocol/specs/Moments)
+pub made-at : MomentFacts.MadeAt
+made-at = Moments.made-at
+
+-- ... days of 1,440 minutes from a Thursday on, each with the next weekday
+pub clock : MomentFacts.Clock
+clock = Moments.clock
+
+-- ... files of hours, their bytes, and whether a push may start
+pub hours-files-hold : Hold HourFacts.taken × Hold HourFacts.refused × Hold HourFacts.loading × Hold HourFacts.lending × Hold HourFacts.starting
+hours-files-hold = (HourRows.taken-hold, HourRows.refused-hold, HourRows.loading-hold, HourRows.lending-hold, HourRows.starting-hold)
+
+-- ... what opening answers and writes; starts at some moments, their replies, and what they leave; 25 in the table of misuse
+pub hours-run-hold : Hold TimedFacts.opening × Hold TimedFacts.written × Hold TimedFacts.pushes × Hold TimedFacts.kept × Hold TimedFacts.lengths × Hold TimedFacts.replies × Hold ClosedFacts.refusals
+hours-run-hold = (TimedRows.opening-holds, TimedRows.written-holds, TimedRows.pushes-hold, TimedRows.kept-holds, TimedRows.lengths-hold, TimedRows.replies-hold, ClosedRows.refusals-hold)
+
+-- ... and of every call: 25 stands in that table where the plain reader has it
+pub as-reader : ClosedFacts.AsReader
+as-reader = ClosedRows.as-reader
+
+-- leap years and months, dates, day numbers and weekdays on both sides of each rule; moments; what a host reads of them
+pub dates-hold : Hold DateFacts.leaps × Hold DateFacts.dates × Hold DateFacts.monthEnds × Hold DateFacts.leapMonthEnds × Hold DateFacts.days × Hold DateFacts.monthEndDays
+    × Hold DateFacts.weekdays × Hold DateFacts.moments × Hold DateFacts.crossings × Hold DateFacts.slices
+dates-hold = (
+  DateRows.leaps-hold,
+  DateRows.dates-hold,
+  DateRows.month-ends-hold,
+  DateRows.leap-month-ends-hold,
+  DateRows.days-hold,
+  DateRows.month-end-days-hold,
+  DateRows.weekdays-hold,
+  DateRows.moments-hold,
+  DateRows.crossings-hold,
+  DateRows.slices-hold,
+)
 
 -- the panel's request reader, decimals, modes, the ids
 pub receiving-holds : Hold ReceiveFacts.receiving
@@ -535,6 +634,10 @@ cases-hold = Cases.cases-hold
 
 pub afterwards-hold : Hold CaseFacts.afterwards
 afterwards-hold = Cases.afterwards-hold
+
+-- ... of every width: the card and misuse speak of every moment of 32 bits
+pub widths : CaseFacts.Widths
+widths = Cases.widths
 
 -- bytes and the numbers that they spell; records field by field; flag words
 pub little-endian : Hold LayoutFacts.readNumbers × Hold LayoutFacts.writtenNumbers × Hold LayoutFacts.signs

@@ -4,7 +4,7 @@
 use Prim.Native.Nat.{ℕ}
 use mathlib.Core.Bool.{true}
 use mathlib.Core.List.{List, [], _∷_, _++_}
-use mathlib.Core.Option.{some}
+use mathlib.Core.Option.{none, some}
 use mathlib.Core.Path.{_≡_, refl, ap}
 use native.Mathlib.Omega.{arith}
 use Rattle.protocol.specs.Bytes.{numberAt, signed, over, put}
@@ -20,8 +20,8 @@ use Rattle.protocol.proofs.Ids.{published-legal}
 use Rattle.id_table.specs.IdsFile.{checked}
 use Rattle.id_table.specs.Settings.{settingsOf, lentIn}
 use Rattle.id_table.proofs.Laws.{id-tables}
-use Rattle.session.specs.Demand3.{Opening, Side, reader}
-use Rattle.totals.specs.System.{totals}
+use Rattle.session.specs.Demand3.{Opening, Side, AllWide, reader}
+use Rattle.hours_totals.specs.System.{timedTotals}
 use Rattle.panel_reply.specs.Replies.{Reply, behindId, isShort}
 use Rattle.panel_side.specs.Crossing.{withStat, withStat2, replyNumbered, crossSpeak}
 use Rattle.panel_side.specs.Claim.{IsReadBack}
@@ -64,18 +64,21 @@ belong =
 
 -- the published ids, and a banner with all seven features
 abbrev seven : Opening
-seven = record { banner = sevenBanner; table = letters; legal = published-legal }
+seven = record { banner = sevenBanner; table = letters; legal = published-legal; hours = none; kept = tt }
 
-free : NoneRefused (reader seven 76 accepted .setting) made
+free : NoneRefused none (reader seven 76 accepted .setting) made
 unfolding several unknown dryRun refusedFlags pathRefusal flagRefusal featureRefusal transferRefusal requestRefusal refusal restAfter split hasFeature featuresOf
 free = (refl, (refl, (refl, (refl, (refl, (refl, (refl, (refl, (refl, (refl, (refl, (refl, (refl, (refl, (refl, (refl, (refl, (refl, (refl, (refl, (refl, (refl, tt))))))))))))))))))))))
 
+wide : AllWide made
+wide = (omega arith, (omega arith, (omega arith, (omega arith, (omega arith, (omega arith, (omega arith, (omega arith, (omega arith, (omega arith, (omega arith, (omega arith, (omega arith, (omega arith, (omega arith, (omega arith, (omega arith, (omega arith, (omega arith, (omega arith, (omega arith, (omega arith, tt))))))))))))))))))))))
+
 -- a byte a read, on a receive buffer of 76 bytes; a byte behind the replies stays unread
-abbrev reads : Side totals 76 accepted
+abbrev reads : Side timedTotals 76 accepted
 reads = side 76 (sent ++ 0xFF ∷ []) refl (omega arith) refl
 
-pub said-read : IsReadBack totals seven accepted made 76 reads heard (0xFF ∷ [])
+pub said-read : IsReadBack timedTotals seven accepted made 76 reads heard (0xFF ∷ [])
 unfolding plainWrites writes several unknown dryRun refusedFlags pathRefusal flagRefusal featureRefusal transferRefusal requestRefusal refusal restAfter split hasFeature featuresOf messages messageOf bytesOfRequest digits cut
 said-read =
-    panel-claim .reads-back seven accepted 76 (omega arith) tt (utterances (settingsOf letters)) replies says (omega arith) made heard belong free (omega arith) reads
+    panel-claim .reads-back seven accepted 76 (omega arith) tt (utterances (settingsOf letters)) replies says (omega arith) made heard belong free wide reads
     (0xFF ∷ []) (ap (λ (l : List ℕ). l ++ 0xFF ∷ []) is-sent) (omega arith, omega arith)

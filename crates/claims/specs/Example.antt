@@ -1,17 +1,19 @@
 -- A host, a banner, tables, buffers and a list of calls, and what is logged of them: a stat on a receive buffer of 16 bytes, a byte a read, and
 -- quit, under the published ids and under others.
 -- And another host, whose ninth read comes to an error: the stat is answered 13, and a second one goes on with the bytes that were left.
+-- And pushes, on a day without hours and on one with them.
 -- Assumes nothing.
 use Prim.Native.Nat.{ℕ}
 use mathlib.Core.List.{List, [], _∷_, _++_, map}
-use mathlib.Core.Option.{some, none}
+use mathlib.Core.Option.{Option, some, none}
 use lib.Dec.{eqb}
 use lib.ListN.{length, drop, replicate}
 use Rattle.protocol.specs.Answers as A
 use Rattle.protocol.specs.Answers.{Answer, closed, error}
 use Rattle.protocol.specs.Bytes.{ascii, pick}
-use Rattle.protocol.specs.Calls.{Call, call}
-use Rattle.protocol.specs.Messages.{ask, stat, quit}
+use Rattle.protocol.specs.Calls.{call, Made, anytimes}
+use Rattle.protocol.specs.Hours.{Span, Hours}
+use Rattle.protocol.specs.Messages.{ask, stat, send, quit}
 use Rattle.protocol.specs.Reader.{accepted}
 use Rattle.protocol.specs.Trials.{statReply}
 use Rattle.session.specs.Host.{Host, Ask, Entry}
@@ -29,8 +31,8 @@ small =
 abbrev pub replied : (statId : List ℕ) → List ℕ
 replied statId = statId ++ drop 4 statReply
 
-abbrev pub calls : List Call
-calls = call (ask stat (ascii "/a")) ∷ call quit ∷ []
+abbrev pub calls : List Made
+calls = anytimes (call (ask stat (ascii "/a")) ∷ call quit ∷ [])
 
 -- what stood in a buffer, or in the record
 abbrev pub dirty : ℕ → List ℕ
@@ -62,8 +64,8 @@ stumbling =
       spare = host .spare;
     }
 
-abbrev pub twice : List Call
-twice = call (ask stat (ascii "/a")) ∷ call (ask stat (ascii "/a")) ∷ []
+abbrev pub twice : List Made
+twice = anytimes (call (ask stat (ascii "/a")) ∷ call (ask stat (ascii "/a")) ∷ [])
 
 -- of a read: the bytes to come and those held, where the window starts and how long it is
 pub record Row : Type 0 where
@@ -151,4 +153,19 @@ stumbled statId =
       unread = [];
       ends = 16;
     }
+    ∷ []
+
+-- "A push may start if the given moment .. falls in its day's span" (document 02, [10]): all of Thursday. The epoch is one, and 86400 seconds later a Friday
+-- begins.
+abbrev pub thursdays : Option Hours
+thursdays = some (record { day = 3; opens = 0; closes = 1440 } ∷ [])
+
+abbrev pub pushes : List Made
+pushes = record { call = call (send (ascii "/j") 1); moment = 86400 } ∷ record { call = call (send (ascii "/j") 1); moment = 86399 } ∷ []
+
+-- "a start outside the hours is 25, after 10 and before any write"
+abbrev pub turned : List Lines
+turned =
+    record { answer = A.refused 25; reads = []; pieces = []; composed = []; closes = []; unread = []; ends = 0 }
+    ∷ record { answer = A.done; reads = []; pieces = (ascii "SEND" ++ 4 ∷ 0 ∷ 0 ∷ 0 ∷ ascii "/j,1") ∷ []; composed = 0 ∷ []; closes = []; unread = []; ends = 0 }
     ∷ []

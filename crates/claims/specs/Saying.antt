@@ -8,7 +8,7 @@ use lib.ListN.{replicate}
 use Rattle.protocol.specs.Answers as A
 use Rattle.protocol.specs.Answers.{Answer}
 use Rattle.protocol.specs.Bytes.{ascii}
-use Rattle.protocol.specs.Calls.{Call, call, nextEntry, nextChunk, v1, v2}
+use Rattle.protocol.specs.Calls.{call, nextEntry, nextChunk, v1, v2, Made, anytimes}
 use Rattle.protocol.specs.Messages as Q
 use Rattle.panel_reply.specs.Facts.{file, missing}
 use Rattle.panel_reply.specs.Replies.{Reply, stat, stat2, entry, entry2, listingEnd, chunk, transferEnd, okay, fail}
@@ -79,16 +79,17 @@ abbrev pub path : List ℕ
 path = ascii "/j"
 
 -- the calls, those that only write among them
-abbrev pub made : List Call
+abbrev pub made : List Made
 made =
-    call (Q.ask Q.stat path) ∷ call (Q.ask Q.sta2 path)
+    anytimes
+    (call (Q.ask Q.stat path) ∷ call (Q.ask Q.sta2 path)
     ∷ call (Q.ask Q.list path) ∷ nextEntry v1 ∷ nextEntry v1
     ∷ call (Q.ask Q.lis2 path) ∷ nextEntry v2 ∷ nextEntry v2
     ∷ call (Q.ask Q.recv path) ∷ nextChunk ∷ nextChunk
     ∷ call (Q.rcv2 path 4) ∷ call (Q.snd2 path 33188 0x8000_0002)
     ∷ call (Q.send path 33188) ∷ call (Q.chunk (ascii "heights")) ∷ call (Q.done 5)
     ∷ call (Q.ask Q.stat path) ∷ call (Q.ask Q.sta2 path) ∷ nextEntry v1 ∷ nextEntry v2 ∷ nextChunk ∷ call (Q.done 5)
-    ∷ []
+    ∷ [])
 
 abbrev pub heard : List Answer
 heard =

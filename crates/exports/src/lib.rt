@@ -1,11 +1,22 @@
-// The exported functions: a session with totals in a lent record, both buffers, what is lent, and a slice for the reply; an index of a listing's
-// entries by their times, in lent slots and an area; and the panel's side, a reply said and a request heard.
+// The exported functions: a session with totals and hours in a lent record, both buffers, what is lent, and a slice for the reply; settings with ids and
+// hours, and the date of a moment; an index of a listing's entries by their times, in lent slots and an area; and the panel's side, a reply said and a
+// request heard.
 ghost use mathlib.Core.Path.{_≡_};
 ghost use Rattle.boundary.specs.Crossing.{crossed, set, crossSettings, crossIds};
 ghost use Rattle.boundary_step.specs.Opened.{openCrossed};
+ghost use Rattle.calendar.specs.Crossing.{crossDate};
+ghost use Rattle.hours.specs.Settings.{loadedHours, crossMayPush};
+ghost use Rattle.hours_totals.specs.Crossing.{timedOpen, timedStart, timedRead, timedWrote, timedFault};
 ghost use Rattle.time_index.specs.Crossing.{laid, indexed, crossIndexOpen, crossIndexAdd, crossIndexBetween, crossIndexLatest, crossIndexEntry};
-ghost use Rattle.totals.specs.Crossing.{totalOpen, totalStart, totalRead, totalWrote, totalFault};
 ghost use Rattle.panel_side.specs.Crossing.{spoke, sliced, crossSpeak, crossHeard};
+use calendar_date::date_of;
+use hours::load_hours;
+use hours::may_push;
+use hours_step::timed_fault;
+use hours_step::timed_open;
+use hours_step::timed_read;
+use hours_step::timed_start;
+use hours_step::timed_wrote;
 use id_table::load_ids;
 use id_table::published;
 use panel_crossing::hear;
@@ -15,13 +26,8 @@ use time_index_slots::index_between;
 use time_index_slots::index_entry;
 use time_index_slots::index_latest;
 use time_index_slots::index_open;
-use totals_step::total_fault;
-use totals_step::total_open;
-use totals_step::total_read;
-use totals_step::total_start;
-use totals_step::total_wrote;
 
-// The settings that a fresh host opens with: the published ids, and nothing else. 0; 3 for settings of another length, which are left alone.
+// The settings that a fresh host opens with: the published ids, and no hours. 0; 3 for settings of another length, which are left alone.
 #[no_mangle]
 pub extern "C" fn yuglasno_settings(settings: &mut [u8]) -> u32
     ensures { λ r. ⌜ set (now (settings .exit)) r ≡ crossSettings (now (settings .entry)) ⌝ }
@@ -38,8 +44,33 @@ pub extern "C" fn yuglasno_ids(settings: &mut [u8], file: &[u8]) -> u32
     load_ids(settings, file)
 }
 
-// Opens a session in the record, with the ids of the settings: 0, or 1 or 2, or 3 for a record or settings of another length, or 22 or 23 for
-// settings without ids; a refusal leaves it alone.
+// The hours of a file into the settings: 0, or 3 for settings of another length, 24 for a file of another form; a refusal leaves them alone.
+#[no_mangle]
+pub extern "C" fn yuglasno_hours(settings: &mut [u8], file: &[u8]) -> u32
+    ensures { λ r. ⌜ set (now (settings .exit)) r ≡ loadedHours (now (settings .entry)) (now (file .entry)) ⌝ }
+{
+    load_hours(settings, file)
+}
+
+// Whether a push may start at a moment, in Unix seconds, by the hours of the settings: 0, or 25, or 3 for settings of another length, 24 for settings
+// whose bytes of hours are none that loading leaves.
+#[no_mangle]
+pub extern "C" fn yuglasno_may_push(settings: &[u8], moment: u32) -> u32
+    ensures { λ r. ⌜ r ≡ crossMayPush (now (settings .entry)) moment ⌝ }
+{
+    may_push(settings, moment)
+}
+
+// The date of a moment, in five numbers: year, month, day, weekday from Monday on, minute. 0, or 3 and out is left alone.
+#[no_mangle]
+pub extern "C" fn yuglasno_date(moment: u32, out: &mut [u8]) -> u32
+    ensures { λ r. ⌜ laid (now (out .exit)) r ≡ crossDate moment (now (out .entry)) ⌝ }
+{
+    date_of(moment, out)
+}
+
+// Opens a session in the record, with the ids and the hours of the settings: 0, or 1 or 2, or 3 for a record or settings of another length, or 22 or 23
+// for settings without ids, 24 for settings whose bytes of hours are none that loading leaves; a refusal leaves it alone.
 #[no_mangle]
 pub extern "C" fn yuglasno_open(
     rec: &mut [u8],
@@ -48,12 +79,13 @@ pub extern "C" fn yuglasno_open(
     rx: usize,
     msg: usize,
 ) -> u32
-    ensures { λ r. ⌜ openCrossed (now (rec .exit)) r ≡ totalOpen (now (rec .entry)) (now (settings .entry)) (now (banner .entry)) rx msg ⌝ }
+    ensures { λ r. ⌜ openCrossed (now (rec .exit)) r ≡ timedOpen (now (rec .entry)) (now (settings .entry)) (now (banner .entry)) rx msg ⌝ }
 {
-    total_open(rec, settings, banner, rx, msg)
+    timed_open(rec, settings, banner, rx, msg)
 }
 
-// Starts a call by its number, 1 to 14: a is its mode or its time, b its flags.
+// Starts a call by its number, 1 to 14: a is its mode or its time, b its flags, and a push starts at the moment, in Unix seconds; 25 where it is outside
+// the hours that the session opened with.
 #[no_mangle]
 pub extern "C" fn yuglasno_start(
     rec: &mut [u8],
@@ -63,11 +95,12 @@ pub extern "C" fn yuglasno_start(
     call: u32,
     a: u32,
     b: u32,
+    moment: u32,
     out: &mut [u8],
 ) -> u32
-    ensures { λ r. ⌜ crossed (now (rec .exit)) (now (rx .exit)) (now (msg .exit)) (now (out .exit)) r ≡ totalStart (now (rec .entry)) (now (rx .entry)) (now (msg .entry)) (now (lent .entry)) call a b (now (out .entry)) ⌝ }
+    ensures { λ r. ⌜ crossed (now (rec .exit)) (now (rx .exit)) (now (msg .exit)) (now (out .exit)) r ≡ timedStart (now (rec .entry)) (now (rx .entry)) (now (msg .entry)) (now (lent .entry)) call a b moment (now (out .entry)) ⌝ }
 {
-    total_start(rec, rx, msg, lent, call, a, b, out)
+    timed_start(rec, rx, msg, lent, call, a, b, moment, out)
 }
 
 // count bytes were read into the window; 21 where the total of them would pass 2^64 - 1.
@@ -80,9 +113,9 @@ pub extern "C" fn yuglasno_read(
     count: usize,
     out: &mut [u8],
 ) -> u32
-    ensures { λ r. ⌜ crossed (now (rec .exit)) (now (rx .exit)) (now (msg .exit)) (now (out .exit)) r ≡ totalRead (now (rec .entry)) (now (rx .entry)) (now (msg .entry)) (now (lent .entry)) count (now (out .entry)) ⌝ }
+    ensures { λ r. ⌜ crossed (now (rec .exit)) (now (rx .exit)) (now (msg .exit)) (now (out .exit)) r ≡ timedRead (now (rec .entry)) (now (rx .entry)) (now (msg .entry)) (now (lent .entry)) count (now (out .entry)) ⌝ }
 {
-    total_read(rec, rx, msg, lent, count, out)
+    timed_read(rec, rx, msg, lent, count, out)
 }
 
 // The write or the close that was asked for was accepted; 21 where the total of what was written would pass 2^64 - 1.
@@ -94,9 +127,9 @@ pub extern "C" fn yuglasno_wrote(
     lent: &[u8],
     out: &mut [u8],
 ) -> u32
-    ensures { λ r. ⌜ crossed (now (rec .exit)) (now (rx .exit)) (now (msg .exit)) (now (out .exit)) r ≡ totalWrote (now (rec .entry)) (now (rx .entry)) (now (msg .entry)) (now (lent .entry)) (now (out .entry)) ⌝ }
+    ensures { λ r. ⌜ crossed (now (rec .exit)) (now (rx .exit)) (now (msg .exit)) (now (out .exit)) r ≡ timedWrote (now (rec .entry)) (now (rx .entry)) (now (msg .entry)) (now (lent .entry)) (now (out .entry)) ⌝ }
 {
-    total_wrote(rec, rx, msg, lent, out)
+    timed_wrote(rec, rx, msg, lent, out)
 }
 
 // What was asked for came to a fault: kind 0 closed, any other an error with its code.
@@ -110,9 +143,9 @@ pub extern "C" fn yuglasno_fault(
     code: u32,
     out: &mut [u8],
 ) -> u32
-    ensures { λ r. ⌜ crossed (now (rec .exit)) (now (rx .exit)) (now (msg .exit)) (now (out .exit)) r ≡ totalFault (now (rec .entry)) (now (rx .entry)) (now (msg .entry)) (now (lent .entry)) kind code (now (out .entry)) ⌝ }
+    ensures { λ r. ⌜ crossed (now (rec .exit)) (now (rx .exit)) (now (msg .exit)) (now (out .exit)) r ≡ timedFault (now (rec .entry)) (now (rx .entry)) (now (msg .entry)) (now (lent .entry)) kind code (now (out .entry)) ⌝ }
 {
-    total_fault(rec, rx, msg, lent, kind, code, out)
+    timed_fault(rec, rx, msg, lent, kind, code, out)
 }
 
 // An index that holds nothing, beside an area of that length: 0, or 3 for slots of another length, which are left alone.

@@ -278,13 +278,13 @@ length-joined (v ∷ vs) e = omega (arith, length-append v (joined vs), e .0, le
 
 module _ (vs : List (List ℕ)) (a : Accepted vs) where
   -- in the settings
-  table-length : length (joined vs) ≡ tableSize
+  pub table-length : length (joined vs) ≡ tableSize
   table-length = omega (arith, length-joined vs (fours vs (a .values)), a .fifteen)
 
-  groups-table : (rest : List ℕ) → groups 4 count (joined vs ++ rest) ≡ vs
+  pub groups-table : (rest : List ℕ) → groups 4 count (joined vs ++ rest) ≡ vs
   groups-table rest = rw (a .fifteen) at (groups-joined vs rest (fours vs (a .values)))
 
-  lent-with : (s : List ℕ) → length s ≡ settingsSize → groups 4 count s ≡ vs → lentIn s ≡ L.Ids (idsOf (tableFrom vs))
+  pub lent-with : (s : List ℕ) → length s ≡ settingsSize → groups 4 count s ≡ vs → lentIn s ≡ L.Ids (idsOf (tableFrom vs))
   unfolding lentIn
   lent-with s e g =
       let m : map (tableIn s) all ≡ vs = in-groups s ∙ g in

@@ -1,4 +1,5 @@
--- Settings: 128 bytes that the host lends. The fifteen ids stand first, four bytes each, in the order of `SyncId::ALL`; the rest is room.
+-- Settings: 128 bytes that the host lends. The fifteen ids stand first, four bytes each, in the order of `SyncId::ALL`; the rest is room, for the hours
+-- (hours/specs/Settings).
 -- Assumes nothing.
 use Prim.Native.Nat.{ℕ, _*_}
 use mathlib.Core.List.{List, [], _++_, map}

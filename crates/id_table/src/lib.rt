@@ -16,7 +16,7 @@ ghost use Rattle.id_table.specs.IdsFile.{count, areValues, twoEqual, che
 ghost use Rattle.id_table.specs.Places.{groups, marked, lineSize, fileSize, formed, faultOf};
 ghost use Rattle.id_table.specs.Settings.{settingsSize, begun, loaded, lentIn};
 
-// Settings: the fifteen ids in the order of SyncId::ALL, four bytes each; the rest is room.
+// Settings: the fifteen ids in the order of SyncId::ALL, four bytes each; the rest is room, for the hours.
 const SETTINGS: usize = 128;
 
 const COUNT: usize = 15;

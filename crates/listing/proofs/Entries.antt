@@ -6,6 +6,8 @@ use native.Mathlib.Omega.{arith}
 use lib.ListN.{length, take}
 use lib.Seq.{length-take-le}
 use Rattle.protocol.specs.Answers as P
+use mathlib.Core.Option.{none}
+use Rattle.protocol.specs.Calls.{anytimes}
 use Rattle.protocol.specs.Reader.{Reply, plainAnswers}
 use Rattle.format_record.specs.Told.{toldStat}
 use Rattle.format_record.specs.declared.StatV1.{StatV1}
@@ -38,7 +40,7 @@ module _ {c : ℕ} {u : List ℕ} {t : Told} (s : Settled c u t) where
   -- the plain reader's next answer is the step's
   answers-next : (k : ℕ) → answers c (suc k) u ≡ said t ∷ answers c k (held (t .st))
   unfolding plainAnswers
-  answers-next k = ap (λ (r : Reply). r .answer ∷ plainAnswers (config c) (P.error 0) (steps k) (r .unread)) (s .same)
+  answers-next k = ap (λ (r : Reply). r .answer ∷ plainAnswers none (config c) (P.error 0) (anytimes (steps k)) (r .unread)) (s .same)
 
 -- what is printed from a step on, and k more
 abbrev pub ahead : ℕ → ℕ → Told → List ℕ

@@ -12,6 +12,7 @@ use lib.ListN.{length, take, drop, length-drop, take-append-drop, drop-of-length
 use lib.Seq.{length-take-le}
 use Rattle.protocol.specs.Answers.{broken, error}
 use Rattle.protocol.specs.Bytes.{over}
+use mathlib.Core.Option.{none}
 use Rattle.protocol.specs.Calls.{v1, nextEntry}
 use Rattle.protocol.specs.Refusal.{refusal}
 use Rattle.protocol.specs.Ids.{Dialect, letters, published}
@@ -152,7 +153,7 @@ over-all b n = rw (take-append-drop n b, zero-add, drop-of-length-le b {i = leng
 
 module _ (rx msg : List ℕ) (least : 8 ≤ length rx) (room : length rx ≤ length msg) where
   abbrev opening : Opening
-  opening = record { banner = []; table = letters; legal = published-legal }
+  opening = record { banner = []; table = letters; legal = published-legal; hours = none; kept = tt }
 
   abbrev s₀ : St
   s₀ = begins opening rx msg least room

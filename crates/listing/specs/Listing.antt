@@ -6,7 +6,8 @@ use mathlib.Core.List.{List, [], _∷_, _++_}
 use lib.ListN.{length}
 use Rattle.protocol.specs.Answers as P
 use Rattle.protocol.specs.Answers.{Answer, error, number}
-use Rattle.protocol.specs.Calls.{Call, v1, nextEntry}
+use mathlib.Core.Option.{none}
+use Rattle.protocol.specs.Calls.{Call, v1, nextEntry, anytimes}
 use Rattle.protocol.specs.Features.{featuresOf}
 use Rattle.protocol.specs.Ids.{published}
 use Rattle.protocol.specs.Reader.{Config, accepted, plainAnswers}
@@ -44,7 +45,7 @@ config c = record { setting = record { dialect = published; features = featuresO
 
 -- its answers to n listing steps, with end error 13
 abbrev pub answers : ℕ → ℕ → List ℕ → List Answer
-answers c n input = plainAnswers (config c) (error 0) (steps n) input
+answers c n input = plainAnswers none (config c) (error 0) (anytimes (steps n)) input
 
 -- The lines behind the heading. Each entry takes at least a byte of the input, so that one step more than it has bytes comes to the end.
 unfoldable pub listed : (capacity : ℕ) → (input : List ℕ) → List ℕ

@@ -1,17 +1,20 @@
 -- A list of calls over the bytes of the replies that belong to them, by the plain reader. Assumes nothing.
 use Prim.Native.Nat.{ℕ, _≤_}
-use mathlib.Core.Bool.{true}
+use mathlib.Core.Bool.{Bool, true, false, _&&_, true≢false}
 use mathlib.Core.List.{List, [], _∷_, _++_, append-assoc}
-use mathlib.Core.Option.{none}
-use mathlib.Core.Path.{_≡_, refl, ap, _∙_}
+use mathlib.Core.Option.{Option, none, some}
+use mathlib.Core.Path.{_≡_, refl, sym, ap, _∙_}
 use native.Mathlib.Omega.{arith}
 use lib.ListN.{length}
 use Rattle.protocol.specs.Answers as A
 use Rattle.protocol.specs.Answers.{Answer, End}
-use Rattle.protocol.specs.Calls.{Call}
+use Rattle.protocol.specs.Bytes.{pick}
+use Rattle.protocol.specs.Calls.{Call, Made}
+use Rattle.protocol.specs.Hours.{Hours}
 use Rattle.protocol.specs.Ids.{Dialect, Sound}
-use Rattle.protocol.specs.Reader.{Config, accepted, ended, plain, written, reply, plainCall, configAfter, plainAnswers}
-use Rattle.protocol.specs.Refusal.{refusal}
+use Rattle.protocol.specs.Reader.{Config, accepted, ended, plain, written, reply, plainCall, configAfter, plainMade, plainAnswers}
+use Rattle.protocol.specs.Reader as R
+use Rattle.protocol.specs.Refusal.{Setting, orElse, refuse, isNone, refusal, closedHours, outside, turned, refusalAt}
 use Rattle.session.specs.Demand3.{ReadsAt}
 use Rattle.session.specs.Host.{Entry}
 use Rattle.panel_reply.specs.Replies.{Reply, bytesOfReply, isShort}
@@ -78,11 +81,21 @@ bytesOfAll d [] = []
 bytesOfAll d (r ∷ rs) = bytesOfReply d r ++ bytesOfAll d rs
 
 -- what the plain reader leaves behind a list of calls
-unfoldable pub plainLeft : Config → End → List Call → List ℕ → List ℕ
-plainLeft g e [] u = u
-plainLeft g e (q ∷ qs) u = plainLeft (configAfter g q) e qs (plainCall g e accepted q u .unread)
+unfoldable pub plainLeft : Option Hours → Config → End → List Made → List ℕ → List ℕ
+plainLeft h g e [] u = u
+plainLeft h g e (m ∷ ms) u = plainLeft h (configAfter g (m .call)) e ms (plainMade h g e m u .unread)
 
-module _ (g : Config) (sound : Sound (g .setting .dialect)) (least : 8 ≤ g .capacity) (e : End) (rest : List ℕ) where
+-- a call that nothing refuses, the hours neither
+let-in : (h : Option Hours) (g : Setting) (m : Made) → refusalAt h g m ≡ none → (refusal g (m .call) ≡ none) × (turned h g m ≡ false)
+let-in h g m = go (refusal g (m .call)) (outside h m) refl refl
+  where
+    go : (o : Option Answer) (b : Bool) → refusal g (m .call) ≡ o → outside h m ≡ b → orElse o (refuse b (A.refused closedHours)) ≡ none
+        → (refusal g (m .call) ≡ none) × (turned h g m ≡ false)
+    go (some a) b r x e = absurd (true≢false (sym (ap isNone e)))
+    go none true r x e = absurd (true≢false (sym (ap isNone e)))
+    go none false r x e = (r, ap (λ (y : Bool). y && isNone (refusal g (m .call))) x)
+
+module _ (h : Option Hours) (g : Config) (sound : Sound (g .setting .dialect)) (least : 8 ≤ g .capacity) (e : End) (rest : List ℕ) where
   abbrev incoming : List Reply → List ℕ
   incoming rs = bytesOfAll (g .setting .dialect) rs ++ rest
 
@@ -93,28 +106,37 @@ module _ (g : Config) (sound : Sound (g .setting .dialect)) (least : 8 ≤ g .ca
       ap (plainCall g e accepted q) (append-assoc (bytesOfReply (g .setting .dialect) r) (bytesOfAll (g .setting .dialect) rs) rest)
       ∙ called g e q _ _ _ h (reply-read g sound least (incoming rs) b (good .fits) (good .short) (good .held))
 
-  pub dialogue-read : {qs : List Call} {rs : List Reply} {as′ : List Answer} → Dialogue qs rs as′ → AllGood (g .capacity) rs → NoneRefused (g .setting) qs
-      → plainAnswers g e qs (incoming rs) ≡ as′
+  -- .. as they are made
+  made-as : (m : Made) (u : List ℕ) (y : R.Reply) → refusalAt h (g .setting) m ≡ none → (refusal (g .setting) (m .call) ≡ none → plainCall g e accepted (m .call) u ≡ y)
+      → plainMade h g e m u ≡ y
+  made-as m u y free same =
+      let l = let-in h (g .setting) m free in
+      ap (λ (b : Bool). pick b (record { answer = A.refused closedHours; unread = u }) (plainCall g e accepted (m .call) u)) (l .1) ∙ same (l .0)
+
+  pub dialogue-read : {ms : List Made} {rs : List Reply} {as′ : List Answer} → Dialogue ms rs as′ → AllGood (g .capacity) rs → NoneRefused h (g .setting) ms
+      → plainAnswers h g e ms (incoming rs) ≡ as′
   unfolding plainAnswers
   dialogue-read over good free = refl
-  dialogue-read (reading {r = r} {rs = rs} b m) good free = rw (goes-on g b, read-one rs b (good .0) (free .0)) (ap (λ (l : List Answer). readAs r ∷ l) (dialogue-read m (good .1) (free .1)))
-  dialogue-read (writing {q = q} {rs = rs} w m) good free =
-      rw (writes-on g w, called g e q (incoming rs) _ _ (free .0) (only-written g w (incoming rs))) (ap (λ (l : List Answer). A.done ∷ l) (dialogue-read m good (free .1)))
+  dialogue-read (reading {m = m} {r = r} {rs = rs} b more) good free =
+      rw (goes-on g b, made-as m (incoming (r ∷ rs)) _ (free .0) (read-one rs b (good .0))) (ap (λ (l : List Answer). readAs r ∷ l) (dialogue-read more (good .1) (free .1)))
+  dialogue-read (writing {m = m} {rs = rs} w more) good free =
+      rw (writes-on g w, made-as m (incoming rs) _ (free .0) (λ f. called g e (m .call) (incoming rs) _ _ f (only-written g w (incoming rs)))) (ap (λ (l : List Answer). A.done ∷ l) (dialogue-read more good (free .1)))
 
-  pub dialogue-left : {qs : List Call} {rs : List Reply} {as′ : List Answer} → Dialogue qs rs as′ → AllGood (g .capacity) rs → NoneRefused (g .setting) qs
-      → plainLeft g e qs (incoming rs) ≡ rest
+  pub dialogue-left : {ms : List Made} {rs : List Reply} {as′ : List Answer} → Dialogue ms rs as′ → AllGood (g .capacity) rs → NoneRefused h (g .setting) ms
+      → plainLeft h g e ms (incoming rs) ≡ rest
   unfolding plainLeft
   dialogue-left over good free = refl
-  dialogue-left (reading {rs = rs} b m) good free = rw (goes-on g b, read-one rs b (good .0) (free .0)) (dialogue-left m (good .1) (free .1))
-  dialogue-left (writing {q = q} {rs = rs} w m) good free =
-      rw (writes-on g w, called g e q (incoming rs) _ _ (free .0) (only-written g w (incoming rs))) (dialogue-left m good (free .1))
+  dialogue-left (reading {m = m} {r = r} {rs = rs} b more) good free =
+      rw (goes-on g b, made-as m (incoming (r ∷ rs)) _ (free .0) (read-one rs b (good .0))) (dialogue-left more (good .1) (free .1))
+  dialogue-left (writing {m = m} {rs = rs} w more) good free =
+      rw (writes-on g w, made-as m (incoming rs) _ (free .0) (λ f. called g e (m .call) (incoming rs) _ _ f (only-written g w (incoming rs)))) (dialogue-left more good (free .1))
 
 -- a log that reads where the plain reader does leaves what it leaves
-pub log-left : (g : Config) (e : End) (qs : List Call) (v : List ℕ) (es : List Entry) → ReadsAt g e qs v es → length es ≡ length qs
-    → leftAfter es v ≡ plainLeft g e qs v
+pub log-left : (h : Option Hours) (g : Config) (e : End) (ms : List Made) (v : List ℕ) (es : List Entry) → ReadsAt h g e ms v es → length es ≡ length ms
+    → leftAfter es v ≡ plainLeft h g e ms v
 unfolding plainLeft
-log-left g e [] v [] r l = refl
-log-left g e [] v (x ∷ xs) r l = absurd (omega arith)
-log-left g e (q ∷ qs) v [] r l = absurd r
-log-left g e (q ∷ qs) v (x ∷ xs) r l =
-    log-left (configAfter g q) e qs (x .unread) xs (r .1 .1 .1) (omega arith) ∙ ap (plainLeft (configAfter g q) e qs) (r .1 .1 .0)
+log-left h g e [] v [] r l = refl
+log-left h g e [] v (x ∷ xs) r l = absurd (omega arith)
+log-left h g e (m ∷ ms) v [] r l = absurd r
+log-left h g e (m ∷ ms) v (x ∷ xs) r l =
+    log-left h (configAfter g (m .call)) e ms (x .unread) xs (r .1 .1 .1) (omega arith) ∙ ap (plainLeft h (configAfter g (m .call)) e ms) (r .1 .1 .0)

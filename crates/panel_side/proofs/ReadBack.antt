@@ -7,7 +7,7 @@ use native.Mathlib.Omega.{arith}
 use lib.Dec.{leb}
 use lib.ListN.{length}
 use Rattle.protocol.specs.Answers.{Answer}
-use Rattle.protocol.specs.Calls.{Call}
+use Rattle.protocol.specs.Calls.{Made}
 use Rattle.protocol.specs.Ids.{Table, Legal, under}
 use Rattle.protocol.specs.Reader.{Report, plainAnswers}
 use Rattle.protocol.proofs.Ids.{legal-sound}
@@ -42,10 +42,10 @@ all-good t legal c (says-next u r lends bytes narrow given zero-told more) h = (
 -- ---- what is read
 
 module _ {X : Type 0} (W : Bound) (S : System X) (claim : Claim W S) (o : Opening) (close : Report) (c : ℕ) (least : 8 ≤ c) (coded : CodedReport close) (us : List Utterance) (rs : List Reply) (says : Says (o .table) us rs)
-    (held : Held c rs) (qs : List Call) (answers : List Answer) (made : Dialogue qs rs answers) (free : NoneRefused (reader o c close .setting) qs)
-    (wide : AllWide qs) (a : Side S c close) (rest : List ℕ) (comes : a .incoming ≡ sentAll us ++ rest) (within : Within W (reader o c close) qs (a .incoming)) where
-  third : Demand3 S o close qs c c a a
-  third = claim o close qs c c least (omega arith) coded wide a a [] (sym (append-nil (a .incoming))) within within
+    (held : Held c rs) (ms : List Made) (answers : List Answer) (made : Dialogue ms rs answers) (free : NoneRefused (o .hours) (reader o c close .setting) ms)
+    (wide : AllWide ms) (a : Side S c close) (rest : List ℕ) (comes : a .incoming ≡ sentAll us ++ rest) (within : Within W (o .hours) (reader o c close) ms (a .incoming)) where
+  third : Demand3 S o close ms c c a a
+  third = claim o close ms c c least (omega arith) coded wide a a [] (sym (append-nil (a .incoming))) within within
 
   came : a .incoming ≡ bytesOfAll (under (o .table)) rs ++ rest
   came = comes ∙ ap (λ (l : List ℕ). l ++ rest) (sent-all (o .table) (o .legal) says)
@@ -53,18 +53,18 @@ module _ {X : Type 0} (W : Bound) (S : System X) (claim : Claim W S) (o : Openin
   good : AllGood c rs
   good = all-good (o .table) (o .legal) c says held
 
-  is-read-back : IsReadBack S o close qs c a answers rest
+  is-read-back : IsReadBack S o close ms c a answers rest
   is-read-back =
       record {
         opens = third .opens-a;
         reads =
             third .answers-a
-            ∙ ap (plainAnswers (reader o c close) (a .host .end) qs) came
-            ∙ dialogue-read (reader o c close) (legal-sound (o .table) (o .legal)) least (a .host .end) rest made good free;
+            ∙ ap (plainAnswers (o .hours) (reader o c close) (a .host .end) ms) came
+            ∙ dialogue-read (o .hours) (reader o c close) (legal-sound (o .table) (o .legal)) least (a .host .end) rest made good free;
         leaves =
-            log-left (reader o c close) (a .host .end) qs (a .incoming) (logFrom S o qs a) (third .reads-a) (third .ends-a)
-            ∙ ap (plainLeft (reader o c close) (a .host .end) qs) came
-            ∙ dialogue-left (reader o c close) (legal-sound (o .table) (o .legal)) least (a .host .end) rest made good free;
+            log-left (o .hours) (reader o c close) (a .host .end) ms (a .incoming) (logFrom S o ms a) (third .reads-a) (third .ends-a)
+            ∙ ap (plainLeft (o .hours) (reader o c close) (a .host .end) ms) came
+            ∙ dialogue-left (o .hours) (reader o c close) (legal-sound (o .table) (o .legal)) least (a .host .end) rest made good free;
       }
 
 -- of any system that demand 3 is claimed of

@@ -8,7 +8,7 @@ use mathlib.Core.Path.{_≡_}
 use lib.ListN.{length, take, drop, replicate}
 use Rattle.protocol.specs.Answers.{Answer}
 use Rattle.protocol.specs.Bytes.{Bytes, put}
-use Rattle.protocol.specs.Calls.{v1, v2, Call, call}
+use Rattle.protocol.specs.Calls.{v1, v2, call, Made}
 use Rattle.protocol.specs.Features.{featuresOf}
 use Rattle.protocol.specs.Ids.{Table, Legal, Dialect, under, DONE, OKAY}
 use Rattle.protocol.specs.Messages as Q
@@ -84,12 +84,12 @@ abbrev pub leftAfter : List Entry → (incoming : List ℕ) → List ℕ
 leftAfter [] u = u
 leftAfter (e ∷ es) u = leftAfter es (e .unread)
 
-module _ {X : Type 0} (S : System X) (o : Opening) (close : Report) (qs : List Call) (c : ℕ) (a : Side S c close) (answers : List Answer) (rest : List ℕ) where
+module _ {X : Type 0} (S : System X) (o : Opening) (close : Report) (ms : List Made) (c : ℕ) (a : Side S c close) (answers : List Answer) (rest : List ℕ) where
   -- the session opens, its answers are these, and all that was said is read, and none of what is behind it
   pub record IsReadBack : Type 0 where
     pub opens : S .opened (a .x) o (a .rx) (a .msg) .number ≡ 0
-    pub reads : answersOf (logFrom S o qs a) ≡ answers
-    pub leaves : leftAfter (logFrom S o qs a) (a .incoming) ≡ rest
+    pub reads : answersOf (logFrom S o ms a) ≡ answers
+    pub leaves : leftAfter (logFrom S o ms a) (a .incoming) ≡ rest
 
 -- ---- the claim: S is the system whose sessions read back, within the bound W ("those that read back under [4], are ones whose totals stay below
 -- that": document 02, [7])
@@ -122,15 +122,15 @@ pub record PanelClaim {X : Type 0} (W : Bound) (S : System X) : Type 0 where
   -- "a fresh session with all seven features .., making the call each belongs to .., none refused": of every list of replies there are such calls,
   -- which write little
   pub has-calls : (o : Opening) → featuresOf (o .banner) ≡ replicate 7 true → (close : Report) (c : ℕ) (rs : List Reply)
-      → (qs : List Call)
-      × (Dialogue qs rs (map readAs rs) × (NoneRefused (reader o c close .setting) qs × (AllWide qs × (length (plainWrites (reader o c close) qs) ≤ 8 * length rs))))
+      → (ms : List Made)
+      × (Dialogue ms rs (map readAs rs) × (NoneRefused (o .hours) (reader o c close .setting) ms × (AllWide ms × (length (plainWrites (o .hours) (reader o c close) ms) ≤ 8 * length rs))))
   -- any list of replies that are taken, any banner and table, any cuts, any bytes behind them, within the bound: a fresh session that makes
   -- their calls reads them, and no more
   pub reads-back : (o : Opening) (close : Report) (c : ℕ) → 8 ≤ c → CodedReport close
       → (us : List Utterance) (rs : List Reply) → Says (o .table) us rs → Held c rs
-      → (qs : List Call) (answers : List Answer) → Dialogue qs rs answers → NoneRefused (reader o c close .setting) qs → AllWide qs
-      → (a : Side S c close) (rest : List ℕ) → a .incoming ≡ sentAll us ++ rest → Within W (reader o c close) qs (a .incoming)
-      → IsReadBack S o close qs c a answers rest
+      → (ms : List Made) (answers : List Answer) → Dialogue ms rs answers → NoneRefused (o .hours) (reader o c close .setting) ms → AllWide ms
+      → (a : Side S c close) (rest : List ℕ) → a .incoming ≡ sentAll us ++ rest → Within W (o .hours) (reader o c close) ms (a .incoming)
+      → IsReadBack S o close ms c a answers rest
   -- `yuglasno_heard` is the request reader, by the table in the settings: what is proved of that reader is proved of it ..
   pub hears-by : (settings : List ℕ) (t : Table) → Legal t → Lends settings t → (bytes out : List ℕ) → outSize ≤ length out
       → crossHeard settings bytes out ≡ hearing out (readRequest (under t) bytes)

@@ -2,18 +2,19 @@
 -- Assumes nothing.
 use Prim.Native.Nat.{ℕ, max, _+_, _≤_, _<_, _^_}
 use mathlib.Core.List.{List, [], _∷_, _++_}
-use mathlib.Core.Option.{none, some}
+use mathlib.Core.Option.{Option, none, some}
 use mathlib.Core.Path.{_≡_}
 use lib.Dec.{eqb}
 use lib.ListN.{length, take}
 use Rattle.protocol.specs.Answers as A
 use Rattle.protocol.specs.Answers.{Answer}
 use Rattle.protocol.specs.Bytes.{Bytes, pick}
-use Rattle.protocol.specs.Calls.{Version, v1, v2, Call, call, nextEntry, nextChunk}
+use Rattle.protocol.specs.Calls.{Version, v1, v2, Call, call, nextEntry, nextChunk, Made}
 use Rattle.protocol.specs.Ids.{Table}
 use Rattle.protocol.specs.Messages as Q
 use Rattle.protocol.specs.Records.{Stat, Stat2}
-use Rattle.protocol.specs.Refusal.{Setting, refusal}
+use Rattle.protocol.specs.Hours.{Hours}
+use Rattle.protocol.specs.Refusal.{Setting, refusalAt}
 use Rattle.ids.specs.Ids.{idsOf}
 use Rattle.id_table.specs.Settings.{lentIn}
 use Rattle.id_table.specs.declared.Lent.the-variants as L
@@ -99,16 +100,16 @@ pub data Writes : Call → Type 0 where
 
 -- A list of calls with the replies that it reads, one for each call that reads, and its answers. The calls between them that only write may be
 -- left out: then each call is that of a reply.
-pub data Dialogue : List Call → List Reply → List Answer → Type 0 where
+pub data Dialogue : List Made → List Reply → List Answer → Type 0 where
   over : Dialogue [] [] []
-  reading : {q : Call} {r : Reply} {qs : List Call} {rs : List Reply} {as′ : List Answer} → BelongsTo r q → Dialogue qs rs as′
-      → Dialogue (q ∷ qs) (r ∷ rs) (readAs r ∷ as′)
-  writing : {q : Call} {qs : List Call} {rs : List Reply} {as′ : List Answer} → Writes q → Dialogue qs rs as′ → Dialogue (q ∷ qs) rs (A.done ∷ as′)
+  reading : {m : Made} {r : Reply} {ms : List Made} {rs : List Reply} {as′ : List Answer} → BelongsTo r (m .call) → Dialogue ms rs as′
+      → Dialogue (m ∷ ms) (r ∷ rs) (readAs r ∷ as′)
+  writing : {m : Made} {ms : List Made} {rs : List Reply} {as′ : List Answer} → Writes (m .call) → Dialogue ms rs as′ → Dialogue (m ∷ ms) rs (A.done ∷ as′)
 
--- "none refused"
-abbrev pub NoneRefused : Setting → List Call → Type 0
-NoneRefused g [] = Unit {0}
-NoneRefused g (q ∷ qs) = (refusal g q ≡ none) × NoneRefused g qs
+-- "none refused", by 25 neither
+abbrev pub NoneRefused : Option Hours → Setting → List Made → Type 0
+NoneRefused h g [] = Unit {0}
+NoneRefused h g (m ∷ ms) = (refusalAt h g m ≡ none) × NoneRefused h g ms
 
 -- "a capacity that holds the largest record, name, FAIL text or DATA message", each by itself
 abbrev pub capacityFor : Reply → ℕ

@@ -23,3 +23,4 @@ pub mod Received
 pub mod Numbers
 pub mod Limits
 pub mod Lettered
+pub mod Moments

@@ -18,7 +18,7 @@ pub data Answer : Type 0 where
   entry : Stat → (name : List ℕ) → Answer
   entry2 : Stat2 → (name : List ℕ) → Answer
   chunk : List ℕ → Answer
-  -- the caller: 1 to 9 and 11; 10 with the number of the missing feature
+  -- the caller: 1 to 9 and 11, and what document 02 adds to them, 25 of a call among these; 10 with the number of the missing feature
   refused : (number : ℕ) → Answer
   missing : (feature : ℕ) → Answer
   -- the link

@@ -44,3 +44,21 @@ messages nextChunk = []
 abbrev pub joinedMessages : Dialect → List Request → List ℕ
 joinedMessages d [] = []
 joinedMessages d (q ∷ qs) = bytesOfRequest d q ++ joinedMessages d qs
+
+-- ---- a call as it is made: "the moment is part of a push start" (document 02, [10]); of other calls it does not count
+
+pub record Made : Type 0 where
+  pub call : Call
+  pub moment : ℕ
+
+abbrev pub callsOf : List Made → List Call
+callsOf [] = []
+callsOf (m ∷ ms) = m .call ∷ callsOf ms
+
+-- where there are no hours: every moment will do, and this is one
+abbrev pub anytime : Call → Made
+anytime q = record { call = q; moment = 0 }
+
+abbrev pub anytimes : List Call → List Made
+anytimes [] = []
+anytimes (q ∷ qs) = anytime q ∷ anytimes qs

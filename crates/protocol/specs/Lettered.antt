@@ -5,11 +5,12 @@
 use Prim.Native.Nat.{ℕ, _-_}
 use mathlib.Core.Bool.{true, false}
 use mathlib.Core.List.{List, [], _∷_, _++_, map}
+use mathlib.Core.Option.{none}
 use lib.ListN.{take, replicate}
 use Rattle.protocol.specs.Answers as A
 use Rattle.protocol.specs.Answers.{Answer, closed, error}
 use Rattle.protocol.specs.Bytes.{ascii}
-use Rattle.protocol.specs.Calls.{v1, v2, Call, call, nextEntry, nextChunk}
+use Rattle.protocol.specs.Calls.{v1, v2, Call, call, nextEntry, nextChunk, anytimes}
 use Rattle.protocol.specs.Fact.{Fact}
 use Rattle.protocol.specs.Ids.{Table, under, STAT, STA2, LIST, LIS2, SEND, SND2, RECV, RCV2, DATA, DONE, OKAY, FAIL, DENT, DNT2, QUIT}
 use Rattle.protocol.specs.Losses.{Listed}
@@ -330,7 +331,7 @@ answeredUnder = told lowTable lowLetters ++ told movedTable movedLetters ++ fore
 abbrev listed : Table → List Call → (unread : List ℕ) → List Answer → (W : List ℕ) → Fact Listed
 listed t qs u answers w =
     record {
-      computed = record { answers = plainAnswers (session t) (error 7) qs u; bytes = plainWrites (session t) qs };
+      computed = record { answers = plainAnswers none (session t) (error 7) (anytimes qs) u; bytes = plainWrites none (session t) (anytimes qs) };
       paper = record { answers = answers; bytes = w };
     }
 

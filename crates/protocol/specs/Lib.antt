@@ -11,9 +11,11 @@ pub mod Requests
 pub mod Headers
 pub mod Answers
 pub mod Calls
+pub mod Hours
 pub mod Refusal
 pub mod Reader
 pub mod Trials
+pub mod Moments
 pub mod Refusals
 pub mod Unrefused
 pub mod Fact

@@ -5,11 +5,12 @@
 use Prim.Native.Nat.{ℕ}
 use mathlib.Core.Bool.{true, false}
 use mathlib.Core.List.{List, [], _∷_, _++_, map}
+use mathlib.Core.Option.{none}
 use lib.ListN.{drop, replicate}
 use Rattle.protocol.specs.Answers as A
 use Rattle.protocol.specs.Answers.{Answer, End, closed, error}
 use Rattle.protocol.specs.Bytes.{ascii}
-use Rattle.protocol.specs.Calls.{v1, v2, Call, call, nextEntry, nextChunk}
+use Rattle.protocol.specs.Calls.{v1, v2, Call, call, nextEntry, nextChunk, anytimes}
 use Rattle.protocol.specs.Fact.{Fact}
 use Rattle.protocol.specs.Ids.{published}
 use Rattle.protocol.specs.Messages.{ask, stat, sta2, list, lis2, recv, rcv2, send, snd2, chunk, done, quit}
@@ -122,7 +123,7 @@ pub record Listed : Type 0 where
 abbrev listed : List Call → (unread : List ℕ) → List Answer → (W : List ℕ) → Fact Listed
 listed qs u answers w =
     record {
-      computed = record { answers = plainAnswers (session accepted) (error 7) qs u; bytes = plainWrites (session accepted) qs };
+      computed = record { answers = plainAnswers none (session accepted) (error 7) (anytimes qs) u; bytes = plainWrites none (session accepted) (anytimes qs) };
       paper = record { answers = answers; bytes = w };
     }
 
@@ -157,6 +158,6 @@ lists =
 -- no call but quit ends the session: the next one is not refused; the close's report is there for the quit that comes later
 abbrev pub goesOn : List (Fact (List Answer))
 goesOn =
-    record { computed = plainAnswers (session (broke (error 8))) (error 7) (call (ask list path) ∷ call quit ∷ []) []; paper = A.done ∷ A.broken (error 8) ∷ [] }
-    ∷ map (λ q. record { computed = drop 1 (plainAnswers (session accepted) (error 7) (q ∷ nextChunk ∷ []) []); paper = A.broken (error 7) ∷ [] })
+    record { computed = plainAnswers none (session (broke (error 8))) (error 7) (anytimes (call (ask list path) ∷ call quit ∷ [])) []; paper = A.done ∷ A.broken (error 8) ∷ [] }
+    ∷ map (λ q. record { computed = drop 1 (plainAnswers none (session accepted) (error 7) (anytimes (q ∷ nextChunk ∷ [])) []); paper = A.broken (error 7) ∷ [] })
     (asking ++ pushing ++ nextEntry v1 ∷ nextEntry v2 ∷ nextChunk ∷ [])

@@ -10,8 +10,9 @@ use lib.ListN.{length, take, drop}
 use Rattle.protocol.specs.Answers as A
 use Rattle.protocol.specs.Answers.{Answer, End, closed, error}
 use Rattle.protocol.specs.Bytes.{pick, same}
-use Rattle.protocol.specs.Calls.{Version, v1, v2, Call, call, nextEntry, nextChunk, messages, joinedMessages}
-use Rattle.protocol.specs.Refusal.{Setting, refusal}
+use Rattle.protocol.specs.Calls.{Version, v1, v2, Call, call, nextEntry, nextChunk, messages, joinedMessages, Made}
+use Rattle.protocol.specs.Hours.{Hours}
+use Rattle.protocol.specs.Refusal.{Setting, refusal, turned, closedHours}
 use Rattle.protocol.specs.Ids.{Id, Dialect, STAT, STA2, DATA, DONE, OKAY, FAIL, DENT, DNT2}
 use Rattle.protocol.specs.Messages.{PathOnly, stat, sta2, list, lis2, recv, Request, ask, rcv2, send, snd2, chunk, done, quit}
 use Rattle.protocol.specs.Records.{idAt, argAt, headerSize, statSize, stat2Size, dentSize, dent2Size, statAt, stat2At, dentAt, dent2At, Stat2}
@@ -250,11 +251,19 @@ configAfter g q =
       close = g .close;
     }
 
--- a list of calls with all writes accepted: the answers, and W
-unfoldable pub plainAnswers : Config → End → List Call → List ℕ → List Answer
-plainAnswers g e [] u = []
-plainAnswers g e (q ∷ qs) u = plainCall g e accepted q u .answer ∷ plainAnswers (configAfter g q) e qs (plainCall g e accepted q u .unread)
+-- ---- calls as they are made: a push start outside the hours is 25 "before any write, from the plain reader too" (document 02, [10])
 
-unfoldable pub plainWrites : Config → List Call → List ℕ
-plainWrites g [] = []
-plainWrites g (q ∷ qs) = writes g q ++ plainWrites (configAfter g q) qs
+abbrev pub plainMade : Option Hours → Config → End → Made → List ℕ → Reply
+plainMade h g e m u = pick (turned h (g .setting) m) (record { answer = A.refused closedHours; unread = u }) (plainCall g e accepted (m .call) u)
+
+abbrev pub writesMade : Option Hours → Config → Made → List ℕ
+writesMade h g m = pick (turned h (g .setting) m) [] (writes g (m .call))
+
+-- a list of calls with all writes accepted: the answers, and W
+unfoldable pub plainAnswers : Option Hours → Config → End → List Made → List ℕ → List Answer
+plainAnswers h g e [] u = []
+plainAnswers h g e (m ∷ ms) u = plainMade h g e m u .answer ∷ plainAnswers h (configAfter g (m .call)) e ms (plainMade h g e m u .unread)
+
+unfoldable pub plainWrites : Option Hours → Config → List Made → List ℕ
+plainWrites h g [] = []
+plainWrites h g (m ∷ ms) = writesMade h g m ++ plainWrites h (configAfter g (m .call)) ms

@@ -1,4 +1,4 @@
--- The refusals 6 to 10 of a call, in their order: 6, 8, 7, 9, 10 (document 01's, as document 02's [6] has changed it).
+-- The refusals 6 to 10 of a call, in their order: 6, 8, 7, 9, 10 (document 01's, as document 02's [6] has changed it); then 25 ([10]).
 -- Assumes nothing.
 use Prim.Native.Nat.{ℕ, zero, suc}
 use mathlib.Core.Bool.{Bool, true, false, _&&_, not}
@@ -11,7 +11,8 @@ use Rattle.protocol.specs.Bytes.{pick, has}
 use Rattle.protocol.specs.Flags.{bit, dryRun, refusedFlags}
 use Rattle.protocol.specs.Ids.{Dialect}
 use Rattle.protocol.specs.Messages.{PathOnly, stat, sta2, list, lis2, recv, Request, ask, rcv2, send, snd2, chunk, done, quit}
-use Rattle.protocol.specs.Calls.{Call, call, nextEntry, nextChunk}
+use Rattle.protocol.specs.Calls.{Call, call, nextEntry, nextChunk, Made}
+use Rattle.protocol.specs.Hours.{Hours, lets}
 
 -- What a session knows besides its bytes.
 pub record Setting : Type 0 where
@@ -77,3 +78,30 @@ callRefusal g nextChunk = none
 -- "A call first meets refusals 6 to 10 in their order"
 unfoldable pub refusal : Setting → Call → Option Answer
 refusal g q = orElse (refuse (g .ended) (refused 6)) (callRefusal g q)
+
+-- ---- 25, of a push start outside the hours (document 02, [10])
+
+abbrev pub isPush : Call → Bool
+isPush (call (ask i p)) = false
+isPush (call (rcv2 p f)) = false
+isPush (call (send p m)) = true
+isPush (call (snd2 p m f)) = true
+isPush (call (chunk x)) = false
+isPush (call (done t)) = false
+isPush (call quit) = false
+isPush (nextEntry v) = false
+isPush nextChunk = false
+
+abbrev pub closedHours : ℕ
+closedHours = 25
+
+abbrev pub outside : Option Hours → Made → Bool
+outside h m = not (lets h (m .moment)) && isPush (m .call)
+
+-- a call is turned away by the hours: "after 10", so where nothing else refuses it
+abbrev pub turned : Option Hours → Setting → Made → Bool
+turned h g m = outside h m && isNone (refusal g (m .call))
+
+-- all refusals of a call as it is made
+abbrev pub refusalAt : Option Hours → Setting → Made → Option Answer
+refusalAt h g m = orElse (refusal g (m .call)) (refuse (outside h m) (refused closedHours))

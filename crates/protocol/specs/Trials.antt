@@ -4,11 +4,12 @@
 use Prim.Native.Nat.{ℕ}
 use mathlib.Core.Bool.{Bool, true, false}
 use mathlib.Core.List.{List, [], _∷_, _++_}
+use mathlib.Core.Option.{none}
 use lib.ListN.{length}
 use Rattle.protocol.specs.Answers as A
 use Rattle.protocol.specs.Answers.{Answer, error}
 use Rattle.protocol.specs.Bytes.{ascii}
-use Rattle.protocol.specs.Calls.{Call, call, nextChunk}
+use Rattle.protocol.specs.Calls.{Call, call, nextChunk, anytimes}
 use Rattle.protocol.specs.Features.{hasFeature}
 use Rattle.protocol.specs.Flags.{refusedFlags}
 use Rattle.protocol.specs.Ids.{published}
@@ -50,7 +51,7 @@ reads c q u a left = record { computed = answered (plainCall (holding c) (error 
 
 -- what a list of calls answers on them
 abbrev pub readsOn : (capacity : ℕ) → List Call → (unread : List ℕ) → List Answer → Trial
-readsOn c qs u list = record { computed = answers (plainAnswers (holding c) (error 0) qs u); paper = answers list }
+readsOn c qs u list = record { computed = answers (plainAnswers none (holding c) (error 0) (anytimes qs) u); paper = answers list }
 
 abbrev pub statReply : List ℕ
 statReply = ascii "STAT" ++ 0xA4 ∷ 0x81 ∷ 0 ∷ 0 ∷ 0xCE ∷ 0x07 ∷ 0 ∷ 0 ∷ 5 ∷ 0 ∷ 0 ∷ 0 ∷ []

@@ -15,13 +15,14 @@ use lib.Seq.{take-append-le, drop-append-le, take-take, length-take-le}
 use Rattle.protocol.specs.Answers as A
 use Rattle.protocol.specs.Answers.{Answer, End, closed, error}
 use Rattle.protocol.specs.Bytes.{pick, same}
-use Rattle.protocol.specs.Calls.{Version, v1, v2, Call, call, nextEntry, nextChunk}
-use Rattle.protocol.specs.Refusal.{refusal}
+use Rattle.protocol.specs.Calls.{Version, v1, v2, Call, call, nextEntry, nextChunk, Made}
+use Rattle.protocol.specs.Hours.{Hours}
+use Rattle.protocol.specs.Refusal.{refusal, turned, closedHours}
 use Rattle.protocol.specs.Ids.{Dialect, FAIL}
 use Rattle.protocol.specs.Messages.{PathOnly, stat, sta2, list, lis2, recv, ask, rcv2, send, snd2, chunk, done, quit}
 use Rattle.protocol.specs.Reader.{Prog, answer, need, skip, Result, ended, short, plain, failing, Way, amongWays, nextOn, next}
 use Rattle.protocol.specs.Reader.{statWays, entryWays, chunkWays, okayWays, Config, accepted, closing, askProg, written, unlessRefused, program}
-use Rattle.protocol.specs.Reader.{reply, plainCall, configAfter, plainAnswers, writes, plainWrites}
+use Rattle.protocol.specs.Reader.{Reply, reply, plainCall, configAfter, plainMade, writesMade, plainAnswers, writes, plainWrites}
 use Rattle.protocol.specs.Records.{idAt, argAt, headerSize}
 use Rattle.protocol_readers.specs.Wider.{widen, Stops, Unstopped, unreadAt, Like}
 use Rattle.protocol_readers.proofs.Fails.{arg-taken, Dropped, all, part, failing-drops}
@@ -188,35 +189,51 @@ module _ (d : ℕ) (e e′ : End) (x : List ℕ) where
       go (ended a v) r′ h runs = rw (h runs .1) (refl, h runs .2)
       go (short n v) r′ h runs = absurd (runs (stops-short e))
 
+  -- .. as it is made: both meet the same hours
+  made-replies : (h : Option Hours) (g : Config) (m : Made) (u : List ℕ) → 8 ≤ g .capacity → g .capacity ≤ d → (Stops (plainMade h g e m u .answer) → ⊥)
+      → (plainMade h (widen d g) e′ m (u ++ x) .unread ≡ plainMade h g e m u .unread ++ x)
+      × Like (g .capacity) (argAt u) (plainMade h g e m u .answer) (plainMade h (widen d g) e′ m (u ++ x) .answer)
+  made-replies h g m u least wide = go (turned h (g .setting) m)
+    where
+      shut : List ℕ → Reply
+      shut v = record { answer = A.refused closedHours; unread = v }
+
+      go : (b : Bool) → (Stops (pick b (shut u) (plainCall g e accepted (m .call) u) .answer) → ⊥)
+          → (pick b (shut (u ++ x)) (plainCall (widen d g) e′ accepted (m .call) (u ++ x)) .unread ≡ pick b (shut u) (plainCall g e accepted (m .call) u) .unread ++ x)
+          × Like (g .capacity) (argAt u) (pick b (shut u) (plainCall g e accepted (m .call) u) .answer)
+          (pick b (shut (u ++ x)) (plainCall (widen d g) e′ accepted (m .call) (u ++ x)) .answer)
+      go true runs = (refl, inl refl)
+      go false runs = replies g (m .call) u least wide runs
+
   -- "Before A's first answer 12, 13 or 17 B gives A's answers; only where A's FAIL text is cut, B's text begins with A's instead."
-  pub before : (g : Config) (qs : List Call) (u : List ℕ) → 8 ≤ g .capacity → g .capacity ≤ d
-      → (k : ℕ) → k < length qs → Unstopped (plainAnswers g e qs u) k
-      → Like (g .capacity) (argAt (unreadAt g e qs u k)) (getD (plainAnswers g e qs u) k A.done) (getD (plainAnswers (widen d g) e′ qs (u ++ x)) k A.done)
+  pub before : (h : Option Hours) (g : Config) (ms : List Made) (u : List ℕ) → 8 ≤ g .capacity → g .capacity ≤ d
+      → (k : ℕ) → k < length ms → Unstopped (plainAnswers h g e ms u) k
+      → Like (g .capacity) (argAt (unreadAt h g e ms u k)) (getD (plainAnswers h g e ms u) k A.done) (getD (plainAnswers h (widen d g) e′ ms (u ++ x)) k A.done)
   unfolding plainAnswers unreadAt
-  before g [] u least wide k h runs = absurd (omega arith)
-  before g (q ∷ qs) u least wide zero h runs = replies g q u least wide (runs 0 (omega arith)) .1
-  before g (q ∷ qs) u least wide (suc k) h runs =
-      rw (replies g q u least wide (runs 0 (omega arith)) .0)
-      (before (configAfter g q) qs (plainCall g e accepted q u .unread) least wide k (omega arith) (λ j i. runs (suc j) (omega arith)))
+  before h g [] u least wide k i runs = absurd (omega arith)
+  before h g (m ∷ ms) u least wide zero i runs = made-replies h g m u least wide (runs 0 (omega arith)) .1
+  before h g (m ∷ ms) u least wide (suc k) i runs =
+      rw (made-replies h g m u least wide (runs 0 (omega arith)) .0)
+      (before h (configAfter g (m .call)) ms (plainMade h g e m u .unread) least wide k (omega arith) (λ j i. runs (suc j) (omega arith)))
 
   -- where the FAIL's length is within A's capacity, the answers are equal
-  pub uncut : (g : Config) (qs : List Call) (u : List ℕ) → 8 ≤ g .capacity → g .capacity ≤ d
-      → (k : ℕ) → k < length qs → Unstopped (plainAnswers g e qs u) k → argAt (unreadAt g e qs u k) ≤ g .capacity
-      → getD (plainAnswers g e qs u) k A.done ≡ getD (plainAnswers (widen d g) e′ qs (u ++ x)) k A.done
-  uncut g qs u least wide k h runs i = go (before g qs u least wide k h runs)
+  pub uncut : (h : Option Hours) (g : Config) (ms : List Made) (u : List ℕ) → 8 ≤ g .capacity → g .capacity ≤ d
+      → (k : ℕ) → k < length ms → Unstopped (plainAnswers h g e ms u) k → argAt (unreadAt h g e ms u k) ≤ g .capacity
+      → getD (plainAnswers h g e ms u) k A.done ≡ getD (plainAnswers h (widen d g) e′ ms (u ++ x)) k A.done
+  uncut h g ms u least wide k l runs i = go (before h g ms u least wide k l runs)
     where
-      go : {a b : Answer} → Like (g .capacity) (argAt (unreadAt g e qs u k)) a b → a ≡ b
+      go : {a b : Answer} → Like (g .capacity) (argAt (unreadAt h g e ms u k)) a b → a ≡ b
       go (inl equal) = equal
       go (inr cut) = absurd (omega arith)
 
 -- "B writes what A writes", over the whole list
-pub writes-same : (g : Config) (d : ℕ) (qs : List Call) → plainWrites (widen d g) qs ≡ plainWrites g qs
+pub writes-same : (h : Option Hours) (g : Config) (d : ℕ) (ms : List Made) → plainWrites h (widen d g) ms ≡ plainWrites h g ms
 unfolding plainWrites writes
-writes-same g d [] = refl
-writes-same g d (q ∷ qs) = ap (λ (y : List ℕ). writes g q ++ y) (writes-same (configAfter g q) d qs)
+writes-same h g d [] = refl
+writes-same h g d (m ∷ ms) = ap (λ (y : List ℕ). writesMade h g m ++ y) (writes-same h (configAfter g (m .call)) d ms)
 
 -- as many answers as calls
-pub answers-length : (g : Config) (e : End) (qs : List Call) (u : List ℕ) → length (plainAnswers g e qs u) ≡ length qs
+pub answers-length : (h : Option Hours) (g : Config) (e : End) (ms : List Made) (u : List ℕ) → length (plainAnswers h g e ms u) ≡ length ms
 unfolding plainAnswers
-answers-length g e [] u = refl
-answers-length g e (q ∷ qs) u = ap suc (answers-length (configAfter g q) e qs (plainCall g e accepted q u .unread))
+answers-length h g e [] u = refl
+answers-length h g e (m ∷ ms) u = ap suc (answers-length h (configAfter g (m .call)) e ms (plainMade h g e m u .unread))

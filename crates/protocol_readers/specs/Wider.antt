@@ -4,12 +4,14 @@ use Prim.Native.Nat.{ℕ, zero, suc, _≤_, _<_}
 use mathlib.Core.Bool.{true}
 use mathlib.Core.List.{List, [], _∷_}
 use mathlib.Core.Logic.{_⊎_}
+use mathlib.Core.Option.{Option}
 use mathlib.Core.Path.{_≡_}
 use lib.ListN.{length, take, getD}
 use Rattle.protocol.specs.Answers.{Answer, End, done, fail, number}
 use Rattle.protocol.specs.Bytes.{has}
-use Rattle.protocol.specs.Calls.{Call}
-use Rattle.protocol.specs.Reader.{Config, accepted, configAfter, plainCall}
+use Rattle.protocol.specs.Calls.{Made}
+use Rattle.protocol.specs.Hours.{Hours}
+use Rattle.protocol.specs.Reader.{Config, configAfter, plainMade}
 
 -- the same, with capacity d
 abbrev pub widen : ℕ → Config → Config
@@ -24,10 +26,10 @@ abbrev pub Unstopped : List Answer → ℕ → Type 0
 Unstopped s k = (j : ℕ) → j ≤ k → Stops (getD s j done) → ⊥
 
 -- what is unread before the k-th call, counted from 0, all writes accepted
-unfoldable pub unreadAt : Config → End → List Call → List ℕ → ℕ → List ℕ
-unreadAt g e qs u zero = u
-unreadAt g e [] u (suc k) = u
-unreadAt g e (q ∷ qs) u (suc k) = unreadAt (configAfter g q) e qs (plainCall g e accepted q u .unread) k
+unfoldable pub unreadAt : Option Hours → Config → End → List Made → List ℕ → ℕ → List ℕ
+unreadAt h g e ms u zero = u
+unreadAt h g e [] u (suc k) = u
+unreadAt h g e (m ∷ ms) u (suc k) = unreadAt h (configAfter g (m .call)) e ms (plainMade h g e m u .unread) k
 
 -- "Only where A's FAIL text is cut": its length l is over A's capacity c. Both answer 14, A's text has c bytes, and B's begins with it.
 pub record Cut (c l : ℕ) (a b : Answer) : Type 0 where

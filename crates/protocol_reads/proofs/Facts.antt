@@ -7,7 +7,7 @@ use Rattle.protocol.specs.Fact.{Hold}
 use Rattle.protocol.specs.Reader.{plain, drain, written, writeBroke, plainAnswers}
 use Rattle.protocol.specs.Records.{statAt, stat2Body, dentAt}
 use Rattle.protocol.specs.Refusal.{refusal, requestRefusal, pathRefusal, featureRefusal}
-use Rattle.protocol_reads.specs.Facts.{turns, ceilings, broken, endings, Ceilings}
+use Rattle.protocol_reads.specs.Facts.{turns, ceilings, broken, turnedAway, endings, Ceilings}
 use Rattle.protocol_reads.specs.Reads.{reach, readsOf, plainReads}
 
 pub turns-hold : Hold turns
@@ -21,6 +21,10 @@ ceilings-hold = refl
 pub broken-hold : Hold broken
 unfolding plain drain written writeBroke refusal requestRefusal pathRefusal numberAt reach readsOf
 broken-hold = refl
+
+pub turned-away-hold : Hold turnedAway
+unfolding drain writeBroke refusal requestRefusal pathRefusal numberAt reach readsOf
+turned-away-hold = refl
 
 pub endings-hold : Hold endings
 endings-hold = refl

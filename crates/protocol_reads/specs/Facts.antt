@@ -4,16 +4,18 @@
 use Prim.Native.Nat.{ℕ, _-_}
 use mathlib.Core.Bool.{Bool, false, true}
 use mathlib.Core.List.{List, [], _∷_, _++_, map}
+use mathlib.Core.Option.{Option, none, some}
 use lib.ListN.{length, replicate}
 use Rattle.protocol.specs.Answers as A
 use Rattle.protocol.specs.Answers.{Answer, End, closed, error, number}
 use Rattle.protocol.specs.Bytes.{ascii}
-use Rattle.protocol.specs.Calls.{v1, Call, call, nextEntry, nextChunk}
+use Rattle.protocol.specs.Calls.{v1, Call, call, nextEntry, nextChunk, anytime, anytimes}
 use Rattle.protocol.specs.Fact.{Fact}
+use Rattle.protocol.specs.Hours.{Hours}
 use Rattle.protocol.specs.Ids.{published}
-use Rattle.protocol.specs.Messages.{stat, sta2, ask, chunk, done, quit}
+use Rattle.protocol.specs.Messages.{stat, sta2, ask, send, chunk, done, quit}
 use Rattle.protocol.specs.Reader.{Config, Report, accepted, broke, configAfter, plainCall, plainAnswers}
-use Rattle.protocol_reads.specs.Reads.{callReads, plainReads, Positive, byLink, Ceiling}
+use Rattle.protocol_reads.specs.Reads.{callReads, madeReads, plainReads, Positive, byLink, Ceiling}
 
 abbrev config : ℕ → Config
 config c = record { setting = record { dialect = published; features = replicate 7 true; ended = false }; capacity = c; close = accepted }
@@ -35,7 +37,7 @@ consumedBy g e (q ∷ qs) u = let v = plainCall g e accepted q u .unread in (len
 abbrev counts : (capacity : ℕ) → List Call → (incoming lengths : List ℕ) → (paper : Counts) → Fact Counts
 counts c qs u ks p =
     record {
-      computed = told (map number (plainAnswers (config c) (error 7) qs u)) (plainReads (config c) (error 7) qs u 0 ks) (consumedBy (config c) (error 7) qs u);
+      computed = told (map number (plainAnswers none (config c) (error 7) (anytimes qs) u)) (plainReads none (config c) (error 7) (anytimes qs) u 0 ks) (consumedBy (config c) (error 7) qs u);
       paper = p;
     }
 
@@ -117,6 +119,18 @@ broken =
     ∷ breaks 64 (error 5) parts refusal3 0 (ones 11) 13 0 0
     ∷ breaks 64 closed stats refusal3 0 (ones 11) 12 0 0
     ∷ []
+
+-- ---- a push start whose write finds the channel closed, FAIL coming byte by byte: it reads all of it, but where the hours turned it away
+
+abbrev pushed : Option Hours → (paper : ℕ) → Fact ℕ
+pushed h p =
+    record {
+      computed = madeReads h (config 16) (broke closed) (anytime (call (send (ascii "/j") 33188))) (ascii "FAIL" ++ word 2 ++ ascii "no") 0 (ones 10) .reads;
+      paper = p;
+    }
+
+abbrev pub turnedAway : List (Fact ℕ)
+turnedAway = pushed none 10 ∷ pushed (some []) 0 ∷ []
 
 -- ---- the ceiling
 

@@ -3,13 +3,16 @@
 use Prim.Native.Nat.{ℕ, _+_, _-_, _≤_, _<_, min}
 use mathlib.Core.Bool.{Bool, false, _||_}
 use mathlib.Core.List.{List, [], _∷_}
+use mathlib.Core.Option.{Option}
 use mathlib.Core.Path.{_≡_}
 use lib.Dec.{eqb, ltb}
 use lib.ListN.{length, take, drop}
 use Rattle.protocol.specs.Answers.{Answer, End, number}
 use Rattle.protocol.specs.Bytes.{pick}
-use Rattle.protocol.specs.Calls.{Call}
-use Rattle.protocol.specs.Reader.{Prog, answer, need, skip, Config, Report, accepted, program, configAfter, plainCall}
+use Rattle.protocol.specs.Calls.{Call, Made}
+use Rattle.protocol.specs.Hours.{Hours}
+use Rattle.protocol.specs.Reader.{Prog, answer, need, skip, Config, Report, accepted, program, configAfter, plainCall, plainMade}
+use Rattle.protocol.specs.Refusal.{turned}
 
 -- reads accepted; how many of the unread bytes have come then; the lengths of the reads that are still to be made
 pub record Tally : Type 0 where
@@ -46,12 +49,16 @@ readsOf c (skip n p) u come ks = readsOf c p (drop n u) (come - n) ks
 abbrev pub callReads : Config → Report → Call → List ℕ → (come : ℕ) → (lengths : List ℕ) → Tally
 callReads g r q u come ks = readsOf (g .capacity) (program g r q) u come ks
 
+-- .. as it is made: one that the hours turn away reads nothing ([10])
+abbrev pub madeReads : Option Hours → Config → Report → Made → List ℕ → (come : ℕ) → (lengths : List ℕ) → Tally
+madeReads h g r m u come ks = pick (turned h (g .setting) m) (still come ks) (callReads g r (m .call) u come ks)
+
 -- a list of calls with all writes accepted: the reads of each. The lengths are those of all reads in turn, whichever call makes them.
-unfoldable pub plainReads : Config → End → List Call → List ℕ → (come : ℕ) → (lengths : List ℕ) → List ℕ
-plainReads g e [] u come ks = []
-plainReads g e (q ∷ qs) u come ks =
-    let t = callReads g accepted q u come ks in
-    t .reads ∷ plainReads (configAfter g q) e qs (plainCall g e accepted q u .unread) (t .come) (t .lengths)
+unfoldable pub plainReads : Option Hours → Config → End → List Made → List ℕ → (come : ℕ) → (lengths : List ℕ) → List ℕ
+plainReads h g e [] u come ks = []
+plainReads h g e (m ∷ ms) u come ks =
+    let t = madeReads h g accepted m u come ks in
+    t .reads ∷ plainReads h (configAfter g (m .call)) e ms (plainMade h g e m u .unread) (t .come) (t .lengths)
 
 -- ---- the ceiling
 

@@ -8,7 +8,7 @@ use mathlib.Core.Path.{_≡_, refl}
 use lib.Dec.{leb, ltb}
 use lib.ListN.{length, take, drop}
 use Rattle.protocol.specs.Bytes.{pick}
-use Rattle.protocol.specs.Calls.{Call}
+use Rattle.protocol.specs.Calls.{Made}
 use Rattle.protocol.specs.Reader.{Report, accepted, broke}
 use Rattle.session.specs.Host.{Show, told, read, writeRx, writeLent, writeBytes, close, Step, Engine, Host, World, newCall, hasRead, hasWritten, composing, hasClosed, counted, lentOf}
 use Rattle.session.specs.Host.{Run, over-with, unended, asking, grantRead, grantWrite, grantClose, granted, run, enough, runCall, Entry, onRun, logOf}
@@ -69,10 +69,10 @@ module _ {X : Type 0} (E : Engine X) (h : Host) (accepts : (i : ℕ) → h .writ
   entry-kept held tail msg k rest (over-with x rx msg′ a w) e = (e, rest w x rx msg′)
   entry-kept held tail msg k rest unended e = tt
 
-  pub log-accepts : (qs : List Call) (w : World) (x : X) (rx msg : List ℕ) → AllAccepted (logOf E h qs w x rx msg)
+  pub log-accepts : (ms : List Made) (w : World) (x : X) (rx msg : List ℕ) → AllAccepted (logOf E h ms w x rx msg)
   unfolding logOf
   log-accepts [] w x rx msg = tt
-  log-accepts (q ∷ qs) w x rx msg =
-      entry-kept (E .holds x rx) (E .tail x) msg (λ w′ x′ rx′ msg′. logOf E h qs w′ x′ rx′ msg′) (λ w′ x′ rx′ msg′. log-accepts qs w′ x′ rx′ msg′)
-      (runCall E h q w x rx msg)
-      (run-kept (lentOf (h .spare w) q) (enough q w) (newCall w) (E .start x rx msg q (h .spare w)) (refl, refl))
+  log-accepts (m ∷ ms) w x rx msg =
+      entry-kept (E .holds x rx) (E .tail x) msg (λ w′ x′ rx′ msg′. logOf E h ms w′ x′ rx′ msg′) (λ w′ x′ rx′ msg′. log-accepts ms w′ x′ rx′ msg′)
+      (runCall E h m w x rx msg)
+      (run-kept (lentOf (h .spare w) (m .call)) (enough (m .call) w) (newCall w) (E .start x rx msg m (h .spare w)) (refl, refl))

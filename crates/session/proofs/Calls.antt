@@ -4,33 +4,32 @@ use Prim.Native.Nat.{ℕ, suc, _+_, _≤_}
 use mathlib.Core.Bool.{Bool, true, false}
 use mathlib.Core.List.{List, [], _∷_, _++_}
 use mathlib.Core.Option.{Option, none, some}
-use mathlib.Core.Path.{_≡_, refl, sym, ap, _∙_, subst}
+use mathlib.Core.Path.{_≡_, refl, sym, ap, _∙_}
 use native.Mathlib.Omega.{arith}
 use lib.ListN.{length}
 use Rattle.protocol.specs.Answers as P
 use Rattle.protocol.specs.Answers.{closed, error}
 use Rattle.protocol.specs.Bytes.{pick}
-use Rattle.protocol.specs.Calls.{v1, v2, Call, call, nextEntry, nextChunk, chunks, cut, messages}
+use Rattle.protocol.specs.Calls.{v1, v2, Call, call, nextEntry, nextChunk, chunks, cut, messages, Made}
 use Rattle.protocol.specs.Refusal.{refusal}
 use Rattle.protocol.specs.Messages.{stat, sta2, list, lis2, recv, ask, rcv2, send, snd2, chunk, done, quit, messageOf}
-use Rattle.protocol.specs.Reader.{answer, plain, Config, Report, accepted, broke, written, writeBroke, Reply, isQuit, configAfter}
+use Rattle.protocol.specs.Reader.{answer, plain, accepted, broke, written, writeBroke, isQuit}
 use Rattle.request.specs.Meaning.{meant}
 use Rattle.request.specs.declared.Request.{Request}
 use Rattle.request.specs.declared.Request.the-variants as Q
 use Rattle.session.specs.declared.Answer.the-variants as A
 use Rattle.session.specs.declared.Pending.the-variants.{Idle}
 use Rattle.session.specs.declared.Phase.the-variants.{Header}
-use Rattle.session.specs.declared.Session.{Session}
 use Rattle.session.specs.declared.Version.the-variants.{V1, V2}
 use Rattle.session.specs.declared.Want.{Want}
 use Rattle.session.specs.declared.Want.the-variants as W
 use Rattle.session.specs.Calls.{settingOf}
 use Rattle.session.specs.Core.{requestOf, core}
-use Rattle.session.specs.Faithful.{Composed, meetsHeader, Faithful}
-use Rattle.session.specs.Host.{Host, World, Run, over-with, unended, enough, runCall, Entry, onRun, logOf}
+use Rattle.session.specs.Faithful.{Composed, meetsHeader}
+use Rattle.session.specs.Host.{Host, World, enough, runCall, Entry}
 use Rattle.session.specs.Phases.{wants}
 use Rattle.session.specs.Reports.{writeFault}
-use Rattle.session.specs.State.{dialectIn, St, st, beside, begun, Good}
+use Rattle.session.specs.State.{dialectIn, St, beside, begun, Good}
 use Rattle.session.specs.Steps.{readOn}
 use Rattle.session.specs.Sends.{tidied, carried, messageOut, sent, told, resumed}
 use Rattle.session.proofs.Data.{data-compacts, data-stays, sending, data-ok}
@@ -163,51 +162,17 @@ composed-none (nextEntry v) n = refl
 composed-none nextChunk n = refl
 
 -- One call: it ends, as the plain reader does.
-pub call-ok : (h : Host) (w : World) (s : St) (q : Call) → Good s → s .ses .pending ≡ Idle
-    → Comes (configOf (s .ses) (h .close)) (h .end) q (held s ++ w .left) (length (held s)) (s .ses .buf .tail) (s .msg) (runCall core h q w (s .ses) (s .rx) (s .msg))
+pub call-ok : (h : Host) (w : World) (s : St) (m : Made) → Good s → s .ses .pending ≡ Idle
+    → Comes (configOf (s .ses) (h .close)) (h .end) (m .call) (held s ++ w .left) (length (held s)) (s .ses .buf .tail) (s .msg) (runCall core h m w (s .ses) (s .rx) (s .msg))
 unfolding plain
-call-ok h w s q good i = go (refusal (settingOf (s .ses)) q) refl (begins (h .spare w) s q good i)
+call-ok h w s m good i = go (refusal (settingOf (s .ses)) q) refl (begins (h .spare w) s q good i)
   where
+    q : Call
+    q = m .call
+
     go : (o : Option P.Answer) → refusal (settingOf (s .ses)) q ≡ o → Begins (h .spare w) s q o
-        → Comes (configOf (s .ses) (h .close)) (h .end) q (held s ++ w .left) (length (held s)) (s .ses .buf .tail) (s .msg) (runCall core h q w (s .ses) (s .rx) (s .msg))
+        → Comes (configOf (s .ses) (h .close)) (h .end) q (held s ++ w .left) (length (held s)) (s .ses .buf .tail) (s .msg) (runCall core h m w (s .ses) (s .rx) (s .msg))
     go none r b = rw (b .1) (open-ok h w s good (b .0) q r [] (composed-none q (length (held s))))
     go (some a) r b =
-        rw (refused h w s q a good i r)
+        rw (refused h w s m a good i r)
         (record { good = good; still = i; config = rw (b .1 .0); same = rw r; heeds = record { asks = tt; pieces = rw r; composed = composed-none q (length (held s)); closes = sym (b .1 .1); windows = tt }; settled = λ x. rw r refl; ends = rw r; kept = rw r })
-
--- ---- every list of calls
-
-module _ (h : Host) where
-  -- a call that came to what it should is an entry as the plain reader has it, and the rest follows
-  entry-ok : (g : Config) (q : Call) (qs : List Call) (v held₀ : List ℕ) (tail₀ : ℕ) (msg₀ : List ℕ) (k : World → Session → List ℕ → List ℕ → List Entry) (o : Run Session)
-      → Comes g (h .end) q v (length held₀) tail₀ msg₀ o
-      → ((w : World) (t : St) → Good t → t .ses .pending ≡ Idle → configOf (t .ses) (g .close) ≡ configAfter g q
-      → Faithful (configAfter g q) (h .end) qs (held t ++ w .left) (k w (t .ses) (t .rx) (t .msg)))
-      → Faithful g (h .end) (q ∷ qs) v (onRun core held₀ tail₀ msg₀ k o)
-  entry-ok g q qs v held₀ tail₀ msg₀ k (over-with x rx msg a w) c rest = (
-    record {
-      answer = sym (ap (λ (y : Reply). y .answer) (c .same));
-      unread = sym (ap (λ (y : Reply). y .unread) (c .same));
-      asks = c .heeds .asks;
-      settled = c .settled;
-      pieces = c .heeds .pieces;
-      composed = c .heeds .composed;
-      closes = c .heeds .closes;
-      windows = c .heeds .windows;
-      ends = c .ends;
-      kept = c .kept;
-    },
-    rest w (st x rx msg) (c .good) (c .still) (c .config),
-  )
-  entry-ok g q qs v held₀ tail₀ msg₀ k unended c rest = absurd c
-
-  -- Each call of the log is the plain reader's, whatever the host does.
-  pub faithful : (g : Config) (qs : List Call) (w : World) (s : St) → Good s → s .ses .pending ≡ Idle → configOf (s .ses) (h .close) ≡ g
-      → Faithful g (h .end) qs (held s ++ w .left) (logOf core h qs w (s .ses) (s .rx) (s .msg))
-  unfolding logOf
-  faithful g [] w s good i c = tt
-  faithful g (q ∷ qs) w s good i c =
-      entry-ok g q qs (held s ++ w .left) (held s) (s .ses .buf .tail) (s .msg) (λ w′ x rx msg. logOf core h qs w′ x rx msg) (runCall core h q w (s .ses) (s .rx) (s .msg))
-      (subst (λ (y : Config). Comes y (h .end) q (held s ++ w .left) (length (held s)) (s .ses .buf .tail) (s .msg) (runCall core h q w (s .ses) (s .rx) (s .msg))) c
-      (call-ok h w s q good i))
-      (λ w′ t good′ i′ c′. faithful (configAfter g q) qs w′ t good′ i′ (ap (λ (z : Report). configOf (t .ses) z) (ap (λ (y : Config). y .close) c) ∙ c′))

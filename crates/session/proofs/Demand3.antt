@@ -3,6 +3,7 @@
 -- Assumes nothing.
 use Prim.Native.Nat.{ℕ, _+_, _≤_, _<_}
 use mathlib.Core.List.{List, [], _++_}
+use mathlib.Core.Option.{Option}
 use mathlib.Core.Path.{_≡_, refl, sym, ap, _∙_, subst}
 use native.Mathlib.Omega.{arith}
 use borrow.Author.Tests.{le-ltb, le-leb}
@@ -10,8 +11,9 @@ use lib.ListN.{length, getD}
 use Rattle.ids.specs.Ids.{idsOf}
 use Rattle.ids.proofs.Laws.{dialect-back}
 use Rattle.protocol.specs.Answers.{Answer, End, done}
-use Rattle.protocol.specs.Calls.{Call}
+use Rattle.protocol.specs.Calls.{Made}
 use Rattle.protocol.specs.Features.{featuresOf}
+use Rattle.protocol.specs.Hours.{Hours}
 use Rattle.protocol.specs.Reader.{Config, Report, plainAnswers}
 use Rattle.protocol.specs.Records.{argAt}
 use Rattle.protocol_readers.specs.Wider.{widen, Unstopped, Like, unreadAt}
@@ -23,34 +25,39 @@ use Rattle.session.specs.Core.{core, featuresFrom, coreSystem}
 use Rattle.session.specs.Demand3.{Opening, System, CodedFault, CodedReport, AllWide, Side, reader, logFrom, answersOf, failLength, Demand3, Bound, unbounded, Within, Claim}
 use Rattle.session.specs.EveryHost.{CodedHost, EveryHost}
 use Rattle.session.specs.Faithful.{Faithful}
-use Rattle.session.specs.Host.{Host, Entry, atStart, logOf}
+use Rattle.session.specs.Host.{Host, Entry, atStart}
+use Rattle.session.specs.Gate.{gated}
 use Rattle.session.specs.State.{St, st, Good}
 use Rattle.session.proofs.Accepts.{AllAccepted, log-accepts}
-use Rattle.session.proofs.Calls.{faithful}
+use Rattle.session.proofs.Gate.{faithful}
+use Rattle.session.proofs.Gated.{logAt, log-gated}
 use Rattle.session.proofs.Logs.{log-ends, log-reads, log-closes, log-answers, log-written, log-unread}
 use Rattle.session.proofs.Turns.{held}
 
 -- ---- two logs: xs and ys their answers, l the length of the FAIL that A's k-th call would meet
 
-module _ (g : Config) (d : ℕ) (e e′ : End) (qs : List Call) (u x : List ℕ) (least : 8 ≤ g .capacity) (wide : g .capacity ≤ d) (xs ys : List Answer)
-    (is : xs ≡ plainAnswers g e qs u) (is′ : ys ≡ plainAnswers (widen d g) e′ qs (u ++ x)) (k l : ℕ) (inside : k < length qs)
-    (meets : l ≡ argAt (unreadAt g e qs u k))
+module _ (t : Option Hours) (g : Config) (d : ℕ) (e e′ : End) (ms : List Made) (u x : List ℕ) (least : 8 ≤ g .capacity) (wide : g .capacity ≤ d) (xs ys : List Answer)
+    (is : xs ≡ plainAnswers t g e ms u) (is′ : ys ≡ plainAnswers t (widen d g) e′ ms (u ++ x)) (k l : ℕ) (inside : k < length ms)
+    (meets : l ≡ argAt (unreadAt t g e ms u k))
     (runs : Unstopped xs k) where
   like : Like (g .capacity) l (getD xs k done) (getD ys k done)
-  like = rw (is, is′, meets) (Wider.before d e e′ x g qs u least wide k inside (subst (λ (y : List Answer). Unstopped y k) is runs))
+  like = rw (is, is′, meets) (Wider.before d e e′ x t g ms u least wide k inside (subst (λ (y : List Answer). Unstopped y k) is runs))
 
   alike : l ≤ g .capacity → getD xs k done ≡ getD ys k done
-  alike h = rw (is, is′) (Wider.uncut d e e′ x g qs u least wide k inside (subst (λ (y : List Answer). Unstopped y k) is runs) (omega arith))
+  alike h = rw (is, is′) (Wider.uncut d e e′ x t g ms u least wide k inside (subst (λ (y : List Answer). Unstopped y k) is runs) (omega arith))
 
 -- ---- any system
 
-module _ {X : Type 0} (S : System X) (opening : Opening) (close : Report) (qs : List Call) (c d : ℕ) (least : 8 ≤ c) (wide : c ≤ d) (a : Side S c close)
+module _ {X : Type 0} (S : System X) (opening : Opening) (close : Report) (ms : List Made) (c d : ℕ) (least : 8 ≤ c) (wide : c ≤ d) (a : Side S c close)
     (b : Side S d close) where
   abbrev A : List Entry
-  A = logFrom S opening qs a
+  A = logFrom S opening ms a
 
   abbrev B : List Entry
-  B = logFrom S opening qs b
+  B = logFrom S opening ms b
+
+  abbrev t : Option Hours
+  t = opening .hours
 
   abbrev g : Config
   g = reader opening c close
@@ -59,67 +66,67 @@ module _ {X : Type 0} (S : System X) (opening : Opening) (close : Report) (qs : 
   g′ = reader opening d close
 
   demand : S .opened (a .x) opening (a .rx) (a .msg) .number ≡ 0 → S .opened (b .x) opening (b .rx) (b .msg) .number ≡ 0
-      → Faithful g (a .host .end) qs (a .incoming) A → Faithful g′ (b .host .end) qs (b .incoming) B
-      → (more : List ℕ) → b .incoming ≡ a .incoming ++ more → Demand3 S opening close qs c d a b
+      → Faithful t g (a .host .end) ms (a .incoming) A → Faithful t g′ (b .host .end) ms (b .incoming) B
+      → (more : List ℕ) → b .incoming ≡ a .incoming ++ more → Demand3 S opening close ms c d a b
   demand opens-a opens-b f f′ more e =
       record {
         opens-a = opens-a;
         opens-b = opens-b;
-        ends-a = log-ends (a .host .end) g qs (a .incoming) A f;
-        ends-b = log-ends (b .host .end) g′ qs (b .incoming) B f′;
-        reads-a = log-reads (a .host .end) g qs (a .incoming) A o f;
-        reads-b = log-reads (b .host .end) g′ qs (b .incoming) B o′ f′;
+        ends-a = log-ends t (a .host .end) g ms (a .incoming) A f;
+        ends-b = log-ends t (b .host .end) g′ ms (b .incoming) B f′;
+        reads-a = log-reads t (a .host .end) g ms (a .incoming) A o f;
+        reads-b = log-reads t (b .host .end) g′ ms (b .incoming) B o′ f′;
         answers-a = answers;
         answers-b = answers′;
-        written-a = log-written (a .host .end) g qs (a .incoming) A o f;
-        written-b = log-written (b .host .end) g′ qs (b .incoming) B o′ f′;
-        closes-a = log-closes (a .host .end) g qs (a .incoming) A f;
-        closes-b = log-closes (b .host .end) g′ qs (b .incoming) B f′;
-        same-writes = log-written (b .host .end) g′ qs (b .incoming) B o′ f′ ∙ Wider.writes-same g d qs ∙ sym
-            (log-written (a .host .end) g qs (a .incoming) A o f);
-        before = λ k l runs. like g d (a .host .end) (b .host .end) qs (a .incoming) more least wide (answersOf A) (answersOf B) answers longer k _ l
+        written-a = log-written t (a .host .end) g ms (a .incoming) A o f;
+        written-b = log-written t (b .host .end) g′ ms (b .incoming) B o′ f′;
+        closes-a = log-closes t (a .host .end) g ms (a .incoming) A f;
+        closes-b = log-closes t (b .host .end) g′ ms (b .incoming) B f′;
+        same-writes = log-written t (b .host .end) g′ ms (b .incoming) B o′ f′ ∙ Wider.writes-same t g d ms ∙ sym
+            (log-written t (a .host .end) g ms (a .incoming) A o f);
+        before = λ k l runs. like t g d (a .host .end) (b .host .end) ms (a .incoming) more least wide (answersOf A) (answersOf B) answers longer k _ l
             (meets k l) runs;
-        uncut = λ k l runs. alike g d (a .host .end) (b .host .end) qs (a .incoming) more least wide (answersOf A) (answersOf B) answers longer k _ l
+        uncut = λ k l runs. alike t g d (a .host .end) (b .host .end) ms (a .incoming) more least wide (answersOf A) (answersOf B) answers longer k _ l
             (meets k l) runs;
-        same = λ p q r. answers ∙ ap (λ (z : End). plainAnswers g z qs (a .incoming)) r ∙ ap (plainAnswers g (b .host .end) qs) q
-            ∙ ap (λ (n : ℕ). plainAnswers (reader opening n close) (b .host .end) qs (b .incoming)) p ∙ sym answers′;
+        same = λ p q r. answers ∙ ap (λ (z : End). plainAnswers t g z ms (a .incoming)) r ∙ ap (plainAnswers t g (b .host .end) ms) q
+            ∙ ap (λ (n : ℕ). plainAnswers t (reader opening n close) (b .host .end) ms (b .incoming)) p ∙ sym answers′;
       }
     where
       o : AllAccepted A
-      o = log-accepts (S .engine) (a .host) (a .accepts) (a .reads) qs (atStart (a .incoming)) _ (a .rx) (a .msg)
+      o = log-accepts (S .engine) (a .host) (a .accepts) (a .reads) ms (atStart (a .incoming)) _ (a .rx) (a .msg)
 
       o′ : AllAccepted B
-      o′ = log-accepts (S .engine) (b .host) (b .accepts) (b .reads) qs (atStart (b .incoming)) _ (b .rx) (b .msg)
+      o′ = log-accepts (S .engine) (b .host) (b .accepts) (b .reads) ms (atStart (b .incoming)) _ (b .rx) (b .msg)
 
-      answers : answersOf A ≡ plainAnswers g (a .host .end) qs (a .incoming)
-      answers = log-answers (a .host .end) g qs (a .incoming) A o f
+      answers : answersOf A ≡ plainAnswers t g (a .host .end) ms (a .incoming)
+      answers = log-answers t (a .host .end) g ms (a .incoming) A o f
 
-      answers′ : answersOf B ≡ plainAnswers g′ (b .host .end) qs (b .incoming)
-      answers′ = log-answers (b .host .end) g′ qs (b .incoming) B o′ f′
+      answers′ : answersOf B ≡ plainAnswers t g′ (b .host .end) ms (b .incoming)
+      answers′ = log-answers t (b .host .end) g′ ms (b .incoming) B o′ f′
 
-      longer : answersOf B ≡ plainAnswers g′ (b .host .end) qs (a .incoming ++ more)
-      longer = answers′ ∙ ap (plainAnswers g′ (b .host .end) qs) e
+      longer : answersOf B ≡ plainAnswers t g′ (b .host .end) ms (a .incoming ++ more)
+      longer = answers′ ∙ ap (plainAnswers t g′ (b .host .end) ms) e
 
-      meets : (k : ℕ) → k < length qs → failLength (a .incoming) A k ≡ argAt (unreadAt g (a .host .end) qs (a .incoming) k)
-      meets k l = ap argAt (log-unread (a .host .end) g qs (a .incoming) A o f k (omega arith))
+      meets : (k : ℕ) → k < length ms → failLength (a .incoming) A k ≡ argAt (unreadAt t g (a .host .end) ms (a .incoming) k)
+      meets k l = ap argAt (log-unread t (a .host .end) g ms (a .incoming) A o f k (omega arith))
 
 -- a host that accepts every write is a host
-module _ {X : Type 0} (W : Bound) (S : System X) (every : EveryHost W S) (opening : Opening) (close : Report) (qs : List Call) (c : ℕ) (least : 8 ≤ c)
-    (coded : CodedReport close) (v : AllWide qs) (a : Side S c close) (within : Within W (reader opening c close) qs (a .incoming)) where
+module _ {X : Type 0} (W : Bound) (S : System X) (every : EveryHost W S) (opening : Opening) (close : Report) (ms : List Made) (c : ℕ) (least : 8 ≤ c)
+    (coded : CodedReport close) (v : AllWide ms) (a : Side S c close) (within : Within W (opening .hours) (reader opening c close) ms (a .incoming)) where
   side-ok : (S .opened (a .x) opening (a .rx) (a .msg) .number ≡ 0)
-      × Faithful (reader opening c close) (a .host .end) qs (a .incoming) (logFrom S opening qs a)
+      × Faithful (opening .hours) (reader opening c close) (a .host .end) ms (a .incoming) (logFrom S opening ms a)
   side-ok =
       let z : CodedHost (a .host) =
       record { reads = λ i. subst CodedFault (sym (a .reads i)) tt; writes = λ i. subst CodedReport (sym (a .accepts i)) tt; close = subst CodedReport (sym (a .closes)) coded; end = a .coded } in
       rw (sym (a .capacity), sym (a .closes))
-      (every opening (a .x) (a .rx) (a .msg) (a .placed) (omega (arith, a)) (omega (arith, a)) (a .wide) (a .host) z (a .lends) qs v (a .incoming) (a .bytes)
+      (every opening (a .x) (a .rx) (a .msg) (a .placed) (omega (arith, a)) (omega (arith, a)) (a .wide) (a .host) z (a .lends) ms v (a .incoming) (a .bytes)
       (rw (a .capacity, a .closes) within))
 
 pub claimed : {X : Type 0} (W : Bound) (S : System X) → EveryHost W S → Claim W S
-claimed W S every opening close qs c d least wide coded v a b more e within within′ =
-    let x = side-ok W S every opening close qs c least coded v a within in
-    let y = side-ok W S every opening close qs d (omega arith) coded v b within′ in
-    demand S opening close qs c d least wide a b (x .0) (y .0) (x .1) (y .1) more e
+claimed W S every opening close ms c d least wide coded v a b more e within within′ =
+    let x = side-ok W S every opening close ms c least coded v a within in
+    let y = side-ok W S every opening close ms d (omega arith) coded v b within′ in
+    demand S opening close ms c d least wide a b (x .0) (y .0) (x .1) (y .1) more e
 
 -- ---- the session's own steps
 
@@ -147,16 +154,20 @@ module _ (opening : Opening) (rx msg : List ℕ) (least : 8 ≤ length rx) (room
   begins-empty = rw (le-leb 0 (length rx) (omega arith))
 
   -- against any host, also one whose reads, writes and close come to faults
-  pub begins-faithful : (h : Host) (qs : List Call) (incoming : List ℕ)
-      → Faithful (reader opening (length rx) (h .close)) (h .end) qs incoming (logOf core h qs (atStart incoming) (begins .ses) rx msg)
-  begins-faithful h qs incoming =
+  pub begins-faithful : (h : Host) (ms : List Made) (incoming : List ℕ)
+      → Faithful (opening .hours) (reader opening (length rx) (h .close)) (h .end) ms incoming (logAt core (opening .hours) h ms (atStart incoming) (begins .ses) rx msg)
+  begins-faithful h ms incoming =
       let g : Config = reader opening (length rx) (h .close) in
-      subst (λ (y : List ℕ). Faithful g (h .end) qs (y ++ incoming) (logOf core h qs (atStart incoming) (begins .ses) rx msg)) begins-empty
-      (faithful h g qs (atStart incoming) begins begins-good refl (rw (features-listed (opening .banner), dialect-back (opening .table) (opening .legal))))
+      subst (λ (y : List ℕ). Faithful (opening .hours) g (h .end) ms (y ++ incoming) (logAt core (opening .hours) h ms (atStart incoming) (begins .ses) rx msg)) begins-empty
+      (faithful (opening .hours) h g ms (atStart incoming) begins begins-good refl (rw (features-listed (opening .banner), dialect-back (opening .table) (opening .legal))))
 
-pub core-hosts : EveryHost unbounded coreSystem
-core-hosts opening x rx msg placed least room wide h z lends qs v incoming b within =
-    (opens opening rx msg least room, rw (opens opening rx msg least room) (begins-faithful opening rx msg least room h qs incoming))
+-- .. behind the gate
+pub core-hosts : EveryHost unbounded (gated coreSystem)
+core-hosts opening x rx msg placed least room wide h z lends ms v incoming b within = (
+  opens opening rx msg least room,
+  rw (opens opening rx msg least room, log-gated core (opening .hours) h ms (atStart incoming) (begins opening rx msg least room .ses) rx msg)
+      (begins-faithful opening rx msg least room h ms incoming),
+)
 
-pub core-claim : Claim unbounded coreSystem
-core-claim = claimed unbounded coreSystem core-hosts
+pub core-claim : Claim unbounded (gated coreSystem)
+core-claim = claimed unbounded (gated coreSystem) core-hosts

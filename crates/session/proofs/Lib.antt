@@ -16,6 +16,8 @@ pub mod Refusals
 pub mod Calls
 pub mod Accepts
 pub mod Logs
+pub mod Gated
+pub mod Gate
 pub mod Demand3
 pub mod Places
 pub mod Examples

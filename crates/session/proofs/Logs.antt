@@ -2,21 +2,24 @@
 -- written, reads, closes and unread bytes.
 -- Assumes nothing.
 use Prim.Native.Nat.{ℕ, zero, suc, _+_, _-_, _≤_}
+use mathlib.Core.Bool.{Bool, true, false, _&&_, not, true≢false}
 use mathlib.Core.List.{List, [], _∷_, _++_, append-assoc}
 use mathlib.Core.Option.{Option, none, some}
 use mathlib.Core.Path.{_≡_, refl, sym, ap, _∙_, subst}
 use native.Mathlib.Omega.{arith}
 use lib.ListN.{length, getD}
-use Rattle.protocol.specs.Answers.{Answer, End}
-use Rattle.protocol.specs.Calls.{Call, messages, joinedMessages}
-use Rattle.protocol.specs.Refusal.{refusal}
+use Rattle.protocol.specs.Answers.{Answer, End, refused}
+use Rattle.protocol.specs.Bytes.{pick}
+use Rattle.protocol.specs.Calls.{Call, call, nextEntry, nextChunk, messages, joinedMessages, Made}
+use Rattle.protocol.specs.Hours.{Hours, lets}
+use Rattle.protocol.specs.Refusal.{Setting, isNone, refusal, isPush, closedHours, outside, turned}
 use Rattle.protocol.specs.Ids.{Dialect}
-use Rattle.protocol.specs.Messages.{Request, joined, pieces}
-use Rattle.protocol.specs.Reader.{Config, accepted, configAfter, Reply, plainCall, unlessWritten, writes, plainAnswers, plainWrites}
+use Rattle.protocol.specs.Messages.{Request, ask, rcv2, send, snd2, chunk, done, quit, joined, pieces}
+use Rattle.protocol.specs.Reader.{Config, accepted, configAfter, Reply, plainCall, unlessWritten, writes, isQuit, plainAnswers, plainWrites}
 use Rattle.protocol.proofs.Messages.{pieces-joined}
 use Rattle.protocol_readers.specs.Wider.{unreadAt}
-use Rattle.session.specs.Demand3.{answersOf, writtenOf, ReadsAt, ClosesAt, unreads}
-use Rattle.session.specs.Faithful.{AllAtNeeds, piecesOf, unlessPieces, callPieces, Accepted, replyOf, AsReader, Faithful}
+use Rattle.session.specs.Demand3.{answersOf, writtenOf, AsksAt, ReadsAt, ClosesAt, unreads}
+use Rattle.session.specs.Faithful.{AllAtNeeds, piecesOf, unlessPieces, callPieces, Accepted, closesFor, replyOf, AsMade, Faithful}
 use Rattle.session.specs.Host.{Broken, Stop, outcomeOf, Entry}
 use Rattle.session.proofs.Accepts.{AllAccepted}
 
@@ -38,16 +41,42 @@ joined-call g q n = go (refusal (g .setting) q)
     go (some a) = refl
     go none = joined-messages (g .setting .dialect) (g .capacity - n) (messages q)
 
+-- ---- a call that was turned away is a push start
+
+and-left : (x y : Bool) → (x && y) ≡ true → x ≡ true
+and-left true y e = refl
+and-left false y e = e
+
+and-right : (x y : Bool) → (x && y) ≡ true → y ≡ true
+and-right true y e = e
+and-right false y e = absurd (true≢false (sym e))
+
+pub turned-push : (h : Option Hours) (g : Setting) (m : Made) → turned h g m ≡ true → isPush (m .call) ≡ true
+turned-push h g m t = and-right (not (lets h (m .moment))) (isPush (m .call)) (and-left (outside h m) (isNone (refusal g (m .call))) t)
+
+push-closes : (q : Call) → isPush q ≡ true → (ended : Bool) (ps : List (List ℕ)) → closesFor (isQuit q) ended ps ≡ []
+push-closes (call (ask i p)) e ended ps = refl
+push-closes (call (rcv2 p f)) e ended ps = refl
+push-closes (call (send p m)) e ended ps = refl
+push-closes (call (snd2 p m f)) e ended ps = refl
+push-closes (call (chunk x)) e ended ps = refl
+push-closes (call (done t)) e ended ps = refl
+push-closes (call quit) e ended ps = absurd (true≢false (sym e))
+push-closes (nextEntry v) e ended ps = refl
+push-closes nextChunk e ended ps = refl
+
 -- ---- an entry whose writes were accepted
 
-record Told (g : Config) (e : End) (q : Call) (v : List ℕ) (x : Entry) : Type 0 where
-  answer : x .answer ≡ plainCall g e accepted q v .answer
-  unread : x .unread ≡ plainCall g e accepted q v .unread
-  asks : AllAtNeeds g accepted q v (x .pieces) (x .asks)
-  written : joined (x .pieces) ≡ writes g q
+-- b: the hours turned the call away
+record Told (b : Bool) (g : Config) (e : End) (q : Call) (v : List ℕ) (x : Entry) : Type 0 where
+  answer : x .answer ≡ pick b (record { answer = refused closedHours; unread = v }) (plainCall g e accepted q v) .answer
+  unread : x .unread ≡ pick b (record { answer = refused closedHours; unread = v }) (plainCall g e accepted q v) .unread
+  asks : AsksAt b g q v (x .pieces) (x .asks)
+  written : joined (x .pieces) ≡ pick b [] (writes g q)
 
-told : (g : Config) (e : End) (q : Call) (v : List ℕ) (x : Entry) → (x .broken ≡ []) × (x .stopped ≡ none) → AsReader g e q v x → Told g e q v x
-told g e q v x (o, p) r =
+told : (b : Bool) (g : Config) (e : End) (q : Call) (v : List ℕ) (x : Entry) → (x .broken ≡ []) × (x .stopped ≡ none) → AsMade b g e q v x → Told b g e q v x
+told true g e q v x o r = record { answer = r .answer; unread = r .unread; asks = r .asks; written = ap joined (r .pieces) }
+told false g e q v x (o, p) r =
     record {
       answer = r .answer ∙ ap (λ (y : Reply). y .answer) whole;
       unread = r .unread ∙ ap (λ (y : Reply). y .unread) whole;
@@ -61,52 +90,58 @@ told g e q v x (o, p) r =
 
 -- ---- the log
 
-module _ (e : End) where
-  pub log-ends : (g : Config) (qs : List Call) (v : List ℕ) (es : List Entry) → Faithful g e qs v es → length es ≡ length qs
+module _ (h : Option Hours) (e : End) where
+  pub log-ends : (g : Config) (ms : List Made) (v : List ℕ) (es : List Entry) → Faithful h g e ms v es → length es ≡ length ms
   log-ends g [] v [] f = refl
   log-ends g [] v (x ∷ es) f = absurd f
-  log-ends g (q ∷ qs) v [] f = absurd f
-  log-ends g (q ∷ qs) v (x ∷ es) f = ap suc (log-ends (configAfter g q) qs (x .unread) es (f .1))
+  log-ends g (m ∷ ms) v [] f = absurd f
+  log-ends g (m ∷ ms) v (x ∷ es) f = ap suc (log-ends (configAfter g (m .call)) ms (x .unread) es (f .1))
 
-  pub log-reads : (g : Config) (qs : List Call) (v : List ℕ) (es : List Entry) → AllAccepted es → Faithful g e qs v es → ReadsAt g e qs v es
+  pub log-reads : (g : Config) (ms : List Made) (v : List ℕ) (es : List Entry) → AllAccepted es → Faithful h g e ms v es → ReadsAt h g e ms v es
   log-reads g [] v es o f = tt
-  log-reads g (q ∷ qs) v [] o f = absurd f
-  log-reads g (q ∷ qs) v (x ∷ es) o f =
-      let t = told g e q v x (o .0) (f .0) in
-      (t .asks, (t .written, (t .unread, log-reads (configAfter g q) qs (x .unread) es (o .1) (f .1))))
+  log-reads g (m ∷ ms) v [] o f = absurd f
+  log-reads g (m ∷ ms) v (x ∷ es) o f =
+      let t = told (turned h (g .setting) m) g e (m .call) v x (o .0) (f .0) in
+      (t .asks, (t .written, (t .unread, log-reads (configAfter g (m .call)) ms (x .unread) es (o .1) (f .1))))
 
-  pub log-closes : (g : Config) (qs : List Call) (v : List ℕ) (es : List Entry) → Faithful g e qs v es → ClosesAt g qs es
+  closes-made : (g : Config) (m : Made) (v : List ℕ) (x : Entry) (b : Bool) → turned h (g .setting) m ≡ b → AsMade b g e (m .call) v x
+      → x .closes ≡ closesFor (isQuit (m .call)) (g .setting .ended) (x .pieces)
+  closes-made g m v x true t f = f .closes ∙ sym (push-closes (m .call) (turned-push h (g .setting) m t) (g .setting .ended) (x .pieces))
+  closes-made g m v x false t f = f .closes
+
+  pub log-closes : (g : Config) (ms : List Made) (v : List ℕ) (es : List Entry) → Faithful h g e ms v es → ClosesAt g ms es
   log-closes g [] v es f = tt
-  log-closes g (q ∷ qs) v [] f = absurd f
-  log-closes g (q ∷ qs) v (x ∷ es) f = (f .0 .closes, log-closes (configAfter g q) qs (x .unread) es (f .1))
+  log-closes g (m ∷ ms) v [] f = absurd f
+  log-closes g (m ∷ ms) v (x ∷ es) f =
+      (closes-made g m v x (turned h (g .setting) m) refl (f .0), log-closes (configAfter g (m .call)) ms (x .unread) es (f .1))
 
-  pub log-answers : (g : Config) (qs : List Call) (v : List ℕ) (es : List Entry) → AllAccepted es → Faithful g e qs v es
-      → answersOf es ≡ plainAnswers g e qs v
+  pub log-answers : (g : Config) (ms : List Made) (v : List ℕ) (es : List Entry) → AllAccepted es → Faithful h g e ms v es
+      → answersOf es ≡ plainAnswers h g e ms v
   unfolding plainAnswers
   log-answers g [] v [] o f = refl
   log-answers g [] v (x ∷ es) o f = absurd f
-  log-answers g (q ∷ qs) v [] o f = absurd f
-  log-answers g (q ∷ qs) v (x ∷ es) o f =
-      let t = told g e q v x (o .0) (f .0) in
-      rw (t .answer, log-answers (configAfter g q) qs (x .unread) es (o .1) (f .1), t .unread)
+  log-answers g (m ∷ ms) v [] o f = absurd f
+  log-answers g (m ∷ ms) v (x ∷ es) o f =
+      let t = told (turned h (g .setting) m) g e (m .call) v x (o .0) (f .0) in
+      rw (t .answer, log-answers (configAfter g (m .call)) ms (x .unread) es (o .1) (f .1), t .unread)
 
-  pub log-written : (g : Config) (qs : List Call) (v : List ℕ) (es : List Entry) → AllAccepted es → Faithful g e qs v es
-      → writtenOf es ≡ plainWrites g qs
+  pub log-written : (g : Config) (ms : List Made) (v : List ℕ) (es : List Entry) → AllAccepted es → Faithful h g e ms v es
+      → writtenOf es ≡ plainWrites h g ms
   unfolding plainWrites
   log-written g [] v [] o f = refl
   log-written g [] v (x ∷ es) o f = absurd f
-  log-written g (q ∷ qs) v [] o f = absurd f
-  log-written g (q ∷ qs) v (x ∷ es) o f =
-      let t = told g e q v x (o .0) (f .0) in
-      rw (t .written, log-written (configAfter g q) qs (x .unread) es (o .1) (f .1))
+  log-written g (m ∷ ms) v [] o f = absurd f
+  log-written g (m ∷ ms) v (x ∷ es) o f =
+      let t = told (turned h (g .setting) m) g e (m .call) v x (o .0) (f .0) in
+      rw (t .written, log-written (configAfter g (m .call)) ms (x .unread) es (o .1) (f .1))
 
   -- what is unread before the k-th call
-  pub log-unread : (g : Config) (qs : List Call) (v : List ℕ) (es : List Entry) → AllAccepted es → Faithful g e qs v es → (k : ℕ) → k ≤ length qs
-      → getD (v ∷ unreads es) k [] ≡ unreadAt g e qs v k
+  pub log-unread : (g : Config) (ms : List Made) (v : List ℕ) (es : List Entry) → AllAccepted es → Faithful h g e ms v es → (k : ℕ) → k ≤ length ms
+      → getD (v ∷ unreads es) k [] ≡ unreadAt h g e ms v k
   unfolding unreadAt
-  log-unread g qs v es o f zero l = refl
+  log-unread g ms v es o f zero l = refl
   log-unread g [] v es o f (suc k) l = absurd (omega arith)
-  log-unread g (q ∷ qs) v [] o f (suc k) l = absurd f
-  log-unread g (q ∷ qs) v (x ∷ es) o f (suc k) l =
-      let t = told g e q v x (o .0) (f .0) in
-      log-unread (configAfter g q) qs (x .unread) es (o .1) (f .1) k (omega arith) ∙ ap (λ (y : List ℕ). unreadAt (configAfter g q) e qs y k) (t .unread)
+  log-unread g (m ∷ ms) v [] o f (suc k) l = absurd f
+  log-unread g (m ∷ ms) v (x ∷ es) o f (suc k) l =
+      let t = told (turned h (g .setting) m) g e (m .call) v x (o .0) (f .0) in
+      log-unread (configAfter g (m .call)) ms (x .unread) es (o .1) (f .1) k (omega arith) ∙ ap (λ (y : List ℕ). unreadAt h (configAfter g (m .call)) e ms y k) (t .unread)

@@ -11,7 +11,7 @@ use lib.ListN.{length, getD}
 use Rattle.protocol.specs.Answers as P
 use Rattle.protocol.specs.Bytes.{pick, has}
 use Rattle.protocol.specs.Refusal as C
-use Rattle.protocol.specs.Calls.{Call, call, nextEntry, nextChunk, messages}
+use Rattle.protocol.specs.Calls.{Call, call, nextEntry, nextChunk, messages, Made}
 use Rattle.protocol.specs.Refusal.{Setting, orElse, refuse, pathRefusal, flagRefusal, featureRefusal, transferRefusal, askFeature, requestRefusal, refusal}
 use Rattle.protocol.specs.Flags.{bit, dryRun, refusedFlags}
 use Rattle.protocol.specs.Ids.{Dialect}
@@ -183,10 +183,11 @@ begins z s q good i = go (s .ses .ended) (C.callRefusal (settingOf (s .ses)) q) 
         (ap stepOf step ∙ rw (r, e, call-shows (settingOf (s .ses)) q a r (s .rx) (s .msg)), (rw y, rw y))
 
 -- A refused call is over at once: the session and both buffers are as they were, and the host was asked nothing.
-pub refused : (h : Host) (w : World) (s : St) (q : Call) (a : P.Answer) → Good s → s .ses .pending ≡ Idle → refusal (settingOf (s .ses)) q ≡ some a
-    → runCall core h q w (s .ses) (s .rx) (s .msg) ≡ over-with (s .ses) (s .rx) (s .msg) a (newCall w)
+pub refused : (h : Host) (w : World) (s : St) (m : Made) (a : P.Answer) → Good s → s .ses .pending ≡ Idle → refusal (settingOf (s .ses)) (m .call) ≡ some a
+    → runCall core h m w (s .ses) (s .rx) (s .msg) ≡ over-with (s .ses) (s .rx) (s .msg) a (newCall w)
 unfolding run
-refused h w s q a good i r =
+refused h w s m a good i r =
+    let q = m .call in
     let n : ℕ = length (w .left) + (5 * length (messages q) + 4) in
     let e : enough q w ≡ suc n = omega arith in
     rw (subst (Begins (h .spare w) s q) r (begins (h .spare w) s q good i) .0, e)

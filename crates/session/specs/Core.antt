@@ -1,4 +1,5 @@
--- The session's own steps as an engine, and its opening: the right-hand sides of the code's contracts, seen from the host.
+-- The session's own steps as an engine, and its opening: the right-hand sides of the code's contracts, seen from the host. They do not look at the
+-- moment: the hours stand around them (Gate).
 -- Assumes nothing.
 use Prim.Native.Nat.{ℕ}
 use mathlib.Core.Bool.{Bool, false}
@@ -79,7 +80,7 @@ begin s nextChunk lent = chunkCall s (length lent)
 abbrev pub core : Engine Session
 core =
     record {
-      start = λ s rx msg q z. stepOf (begin (st s rx msg) q (lentOf z q));
+      start = λ s rx msg m z. stepOf (begin (st s rx msg) (m .call) (lentOf z (m .call)));
       onRead = λ s rx msg lent k z. stepOf (reportRead (st s rx msg) (length lent) k);
       onWrote = λ s rx msg lent z. stepOf (reportWrote (st s rx msg) lent);
       onFault = λ s rx msg lent e z. stepOf (reportFault (st s rx msg) (length lent) (faultOf e));

@@ -3,19 +3,20 @@
 -- Assumes nothing.
 use Prim.Native.Nat.{ℕ, _<_, _^_}
 use mathlib.Core.Bool.{true, false}
-use mathlib.Core.List.{List, [], _∷_, _++_}
+use mathlib.Core.List.{List, [], _∷_, _++_, map}
 use mathlib.Core.Option as Option
 use lib.ListN.{length, take, drop, replicate}
 use Rattle.protocol.specs.Answers as A
 use Rattle.protocol.specs.Answers.{Answer, End, closed, error}
 use Rattle.protocol.specs.Bytes.{ascii}
-use Rattle.protocol.specs.Calls.{v1, v2, Call, call, nextEntry, nextChunk}
+use Rattle.protocol.specs.Calls.{v1, v2, Call, call, nextEntry, nextChunk, Made, anytime}
+use Rattle.protocol.specs.Hours.{Hours}
 use Rattle.protocol.specs.Ids.{published}
 use Rattle.protocol.specs.Messages.{ask, stat, sta2, list, lis2, recv, rcv2, send, snd2, chunk, done, quit}
 use Rattle.protocol.specs.Reader.{Config, accepted, broke}
 use Rattle.session.specs.Demand3.{Coded, CodedReport, AllWide}
 use Rattle.session.specs.Faithful.{AllAtNeeds, Accepted, Placed, Composed, AsReader, Faithful}
-use Rattle.session.specs.Host.{Ask, Broken, Entry}
+use Rattle.session.specs.Host.{Ask, Broken, Stop, Entry}
 
 abbrev config : Config
 config = record { setting = record { dialect = published; features = []; ended = false }; capacity = 16; close = accepted }
@@ -109,12 +110,50 @@ abbrev ended : Ask
 ended = asking [] (ascii "STAT") 4 12 (message ∷ []) 0
 
 -- each call, with these arguments
-abbrev callsOf : List ℕ → (m f : ℕ) → List Call
-callsOf p m f =
+abbrev eachCall : List ℕ → (m f : ℕ) → List Call
+eachCall p m f =
     call (ask stat p) ∷ call (ask sta2 p) ∷ call (ask list p) ∷ call (ask lis2 p) ∷ call (ask recv p) ∷ call (rcv2 p f) ∷ call (send p m) ∷ call (snd2 p m f)
     ∷ call (chunk p) ∷ call (done m) ∷ call quit
     ∷ nextEntry v1 ∷ nextEntry v2 ∷ nextChunk
     ∷ []
+
+abbrev at : ℕ → Call → Made
+at t q = record { call = q; moment = t }
+
+-- "a start outside the hours is 25 .. before any write" (document 02, [10]): a push where no moment will do, and a log of it
+abbrev Pushed : Option.Option Hours → Entry → Type 0
+Pushed h x = Faithful h config (error 7) (at 0 (call (send (ascii "/t") 1)) ∷ []) incoming (x ∷ [])
+
+abbrev NotAway : Entry → Type 0
+NotAway x = Pushed (Option.some []) x → ⊥
+
+abbrev away : Entry
+away = entry (A.refused 25) [] [] [] [] incoming 0 kept
+
+abbrev pushMessage : List ℕ
+pushMessage = ascii "SEND" ++ 4 ∷ 0 ∷ 0 ∷ 0 ∷ ascii "/t,1"
+
+abbrev pushed : Entry
+pushed = entry A.done [] (pushMessage ∷ []) (0 ∷ []) [] incoming 0 kept
+
+-- .. with a write that came to a fault, a read that did
+abbrev stumbling : List Broken → Option.Option Stop → Entry
+stumbling b s =
+    record {
+      held = [];
+      tail = 0;
+      msg = kept;
+      answer = A.refused 25;
+      asks = [];
+      pieces = [];
+      broken = b;
+      composed = [];
+      closes = [];
+      stopped = s;
+      unread = incoming;
+      ends = 0;
+      kept = kept;
+    }
 
 pub record Examples : Type 0 where
   pub right : Right (entry found reads (message ∷ []) (0 ∷ []) [] [] 16 kept)
@@ -139,8 +178,23 @@ pub record Examples : Type 0 where
   pub reads-elsewhere : Wrong (entry found (elsewhere ∷ []) (message ∷ []) (0 ∷ []) [] [] 16 kept)
   pub ended-again : AllAtNeeds config accepted statCall (ascii "STAT") (message ∷ []) (ended ∷ ended ∷ []) → ⊥
   -- an entry for each call, and no other
-  pub missing : Faithful config (error 7) (statCall ∷ []) incoming [] → ⊥
-  pub more : Faithful config (error 7) [] incoming (entry found [] [] [] [] [] 0 kept ∷ []) → ⊥
+  pub missing : (h : Option.Option Hours) → Faithful h config (error 7) (anytime statCall ∷ []) incoming [] → ⊥
+  pub more : (h : Option.Option Hours) → Faithful h config (error 7) [] incoming (entry found [] [] [] [] [] 0 kept ∷ []) → ⊥
+  -- outside the hours 25 and nothing else; within them a push goes out
+  pub turned : Pushed (Option.some []) away
+  pub let-in : Pushed Option.none pushed
+  pub turned-within : Pushed Option.none away → ⊥
+  pub let-in-outside : NotAway pushed
+  pub turned-answer : NotAway (entry (A.refused 24) [] [] [] [] incoming 0 kept)
+  pub turned-unread : NotAway (entry (A.refused 25) [] [] [] [] (drop 1 incoming) 0 kept)
+  pub turned-reads : NotAway (entry (A.refused 25) (asking incoming [] 0 16 [] 0 ∷ []) [] [] [] incoming 0 kept)
+  pub turned-writes : NotAway (entry (A.refused 25) [] (pushMessage ∷ []) [] [] incoming 0 kept)
+  pub turned-broken : NotAway (stumbling (record { piece = pushMessage; fault = closed; before = [] } ∷ []) Option.none)
+  pub turned-composed : NotAway (entry (A.refused 25) [] [] (0 ∷ []) [] incoming 0 kept)
+  pub turned-closes : NotAway (entry (A.refused 25) [] [] [] ([] ∷ []) incoming 0 kept)
+  pub turned-stopped : NotAway (stumbling [] (Option.some (record { fault = closed; rest = incoming })))
+  pub turned-ends : NotAway (entry (A.refused 25) [] [] [] [] incoming 1 kept)
+  pub turned-kept : NotAway (entry (A.refused 25) [] [] [] [] incoming 0 (8 ∷ replicate 19 7))
   -- "W keeps the pieces accepted, each whole": after a fault those before it, and that piece was offered once
   pub some-accepted : Accepted (ascii "a" ∷ ascii "b" ∷ []) (ascii "a" ∷ []) [] → ⊥
   pub broken : Accepted (ascii "a" ∷ ascii "b" ∷ []) (ascii "a" ∷ []) (record { piece = ascii "b"; fault = closed; before = ascii "a" ∷ [] } ∷ [])
@@ -157,7 +211,7 @@ pub record Examples : Type 0 where
   pub quit-by-value : Composed (call quit) 5 (5 ∷ []) → ⊥
   pub step-by-value : Composed (nextEntry v1) 5 (5 ∷ []) → ⊥
   pub chunk-by-value : Composed nextChunk 5 (5 ∷ []) → ⊥
-  -- demand 3 speaks of every path and data of up to 2^64 bytes, of every mode, flag word and time, and of every 32-bit code
-  pub wide : (p : List ℕ) (m f : ℕ) → length p < 2 ^ 64 → m < 2 ^ 32 → f < 2 ^ 32 → AllWide (callsOf p m f)
+  -- demand 3 speaks of every path and data of up to 2^64 bytes, of every mode, flag word, time and moment, and of every 32-bit code
+  pub wide : (p : List ℕ) (m f t : ℕ) → length p < 2 ^ 64 → m < 2 ^ 32 → f < 2 ^ 32 → t < 2 ^ 32 → AllWide (map (at t) (eachCall p m f))
   pub coded : (c : ℕ) → c < 2 ^ 32 → Coded (error c) × CodedReport (broke (error c))
   pub uncoded : Coded closed × (CodedReport (broke closed) × CodedReport accepted)

@@ -7,10 +7,11 @@ use mathlib.Core.Option.{Option, none, some}
 use mathlib.Core.Path.{_≡_}
 use lib.Dec.{leb, ltb}
 use lib.ListN.{length, take, drop}
-use Rattle.protocol.specs.Answers.{Answer, End}
+use Rattle.protocol.specs.Answers.{Answer, End, refused}
 use Rattle.protocol.specs.Bytes.{pick, same}
-use Rattle.protocol.specs.Calls.{Call, call, nextEntry, nextChunk, messages}
-use Rattle.protocol.specs.Refusal.{refusal}
+use Rattle.protocol.specs.Calls.{Call, call, nextEntry, nextChunk, messages, Made}
+use Rattle.protocol.specs.Hours.{Hours}
+use Rattle.protocol.specs.Refusal.{refusal, turned, closedHours}
 use Rattle.protocol.specs.Ids.{Dialect, FAIL}
 use Rattle.protocol.specs.Messages.{Request, ask, rcv2, send, snd2, chunk, done, quit, pieces}
 use Rattle.protocol.specs.Reader.{Prog, answer, need, skip, Config, Report, accepted, broke, Result, ended as out, short, plain, program, configAfter, Reply, plainCall, isQuit}
@@ -183,9 +184,27 @@ pub record AsReader (g : Config) (e : End) (q : Call) (v : List ℕ) (x : Entry)
   pub ends : x .ends ≡ tailAfter (restsAt g (outcomeOf (x .broken)) q (length (x .held)) (x .tail)) (x .asks)
   pub kept : x .kept ≡ keeping (textOf g (outcomeOf (x .broken)) q (cameOf (x .stopped) v)) (x .msg)
 
+-- a call that the hours turned away: 25, nothing read, written or closed, the bytes, tail and the message buffer as they were (the receive buffer: `misuse`, unchanged)
+pub record Turned (v : List ℕ) (x : Entry) : Type 0 where
+  pub answer : x .answer ≡ refused closedHours
+  pub unread : x .unread ≡ v
+  pub asks : x .asks ≡ []
+  pub pieces : x .pieces ≡ []
+  pub broken : x .broken ≡ []
+  pub composed : x .composed ≡ []
+  pub closes : x .closes ≡ []
+  pub stopped : x .stopped ≡ none
+  pub ends : x .ends ≡ x .tail
+  pub kept : x .kept ≡ x .msg
+
+-- a call of the log, as it was made
+abbrev pub AsMade : (turned : Bool) → Config → End → Call → List ℕ → Entry → Type 0
+AsMade true g e q v x = Turned v x
+AsMade false g e q v x = AsReader g e q v x
+
 -- an entry for each call, each as the plain reader has it
-abbrev pub Faithful : Config → End → List Call → List ℕ → List Entry → Type 0
-Faithful g e [] v [] = Unit {0}
-Faithful g e [] v (x ∷ xs) = ⊥
-Faithful g e (q ∷ qs) v [] = ⊥
-Faithful g e (q ∷ qs) v (x ∷ xs) = AsReader g e q v x × Faithful (configAfter g q) e qs (x .unread) xs
+abbrev pub Faithful : Option Hours → Config → End → List Made → List ℕ → List Entry → Type 0
+Faithful h g e [] v [] = Unit {0}
+Faithful h g e [] v (x ∷ xs) = ⊥
+Faithful h g e (m ∷ ms) v [] = ⊥
+Faithful h g e (m ∷ ms) v (x ∷ xs) = AsMade (turned h (g .setting) m) g e (m .call) v x × Faithful h (configAfter g (m .call)) e ms (x .unread) xs

@@ -9,7 +9,7 @@ use lib.Dec.{leb, ltb}
 use lib.ListN.{length, take, drop}
 use Rattle.protocol.specs.Answers.{Answer, End}
 use Rattle.protocol.specs.Bytes.{pick, over}
-use Rattle.protocol.specs.Calls.{Call, call, nextEntry, nextChunk, messages}
+use Rattle.protocol.specs.Calls.{Call, call, nextEntry, nextChunk, messages, Made}
 use Rattle.protocol.specs.Messages.{ask, rcv2, send, snd2, chunk, done, quit}
 use Rattle.protocol.specs.Reader.{Report, accepted, broke}
 
@@ -46,7 +46,7 @@ pub record Spare : Type 0 where
 -- A session, seen from outside. It is lent both buffers at each step, and a call's path or data (of a read or a fault only its length
 -- counts). `holds`: the bytes that it has received and not consumed; `tail`: where the free end of the receive buffer begins, behind them.
 pub record Engine (X : Type 0) : Type 0 where
-  pub start : X → List ℕ → List ℕ → Call → Spare → Step X
+  pub start : X → List ℕ → List ℕ → Made → Spare → Step X
   pub onRead : X → List ℕ → List ℕ → (lent : List ℕ) → (count : ℕ) → Spare → Step X
   pub onWrote : X → List ℕ → List ℕ → (lent : List ℕ) → Spare → Step X
   pub onFault : X → List ℕ → List ℕ → (lent : List ℕ) → End → Spare → Step X
@@ -205,8 +205,8 @@ run E h lent (suc n) w s = granted E h lent (λ w′ s′. run E h lent n w′ s
 abbrev pub enough : Call → World → ℕ
 enough q w = length (w .left) + (5 * length (messages q) + 5)
 
-abbrev pub runCall : {X : Type 0} → Engine X → Host → Call → World → X → List ℕ → List ℕ → Run X
-runCall E h q w x rx msg = run E h (lentOf (h .spare w) q) (enough q w) (newCall w) (E .start x rx msg q (h .spare w))
+abbrev pub runCall : {X : Type 0} → Engine X → Host → Made → World → X → List ℕ → List ℕ → Run X
+runCall E h m w x rx msg = run E h (lentOf (h .spare w) (m .call)) (enough (m .call) w) (newCall w) (E .start x rx msg m (h .spare w))
 
 -- what is logged of a call
 pub record Entry : Type 0 where
@@ -232,6 +232,6 @@ onRun E held tail msg k (over-with x rx msg′ a w) =
 onRun E held tail msg k unended = []
 
 -- a list of calls; the log ends early where a call does not end
-unfoldable pub logOf : {X : Type 0} → Engine X → Host → List Call → World → X → List ℕ → List ℕ → List Entry
+unfoldable pub logOf : {X : Type 0} → Engine X → Host → List Made → World → X → List ℕ → List ℕ → List Entry
 logOf E h [] w x rx msg = []
-logOf E h (q ∷ qs) w x rx msg = onRun E (E .holds x rx) (E .tail x) msg (λ w′ x′ rx′ msg′. logOf E h qs w′ x′ rx′ msg′) (runCall E h q w x rx msg)
+logOf E h (m ∷ ms) w x rx msg = onRun E (E .holds x rx) (E .tail x) msg (λ w′ x′ rx′ msg′. logOf E h ms w′ x′ rx′ msg′) (runCall E h m w x rx msg)

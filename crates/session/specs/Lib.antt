@@ -9,6 +9,7 @@ pub mod Host
 pub mod Core
 pub mod Faithful
 pub mod Demand3
+pub mod Gate
 pub mod EveryHost
 pub mod Places
 pub mod Examples

@@ -10,7 +10,7 @@ use lib.ListN.{length, drop}
 use Rattle.protocol.specs.Answers as A
 use Rattle.protocol.specs.Answers.{Answer, End, closed, error}
 use Rattle.protocol.specs.Bytes.{pick, ascii}
-use Rattle.protocol.specs.Calls.{Call, call}
+use Rattle.protocol.specs.Calls.{Call, call, anytimes}
 use Rattle.protocol.specs.Fact.{Fact}
 use Rattle.protocol.specs.Messages.{send}
 use Rattle.protocol.specs.Reader.{Report, accepted, broke}
@@ -55,7 +55,7 @@ msg = ascii "ABCDEFGHIJ"
 -- the log of some calls on a buffer "abcdefgh"
 abbrev row : Report → Report → List Call → List Show → (incoming : List ℕ) → List Entry → Fact (List Entry)
 row second atClose qs script incoming log =
-    record { computed = logOf scripted (host second atClose) qs (atStart incoming) script (ascii "abcdefgh") msg; paper = log }
+    record { computed = logOf scripted (host second atClose) (anytimes qs) (atStart incoming) script (ascii "abcdefgh") msg; paper = log }
 
 abbrev script : List Show
 script = writeRx 2 3 ∷ writeLent 0 2 ∷ writeBytes (ascii "QU") ∷ read 4 4 ∷ close ∷ told A.end ∷ []

@@ -1,4 +1,4 @@
--- A call of a faithful log that answers with a refusal, one of the caller's numbers, has asked the host nothing: no other leaf of the plain reader's
+-- A call of a faithful log that answers with a refusal, one of the caller's numbers or 25, has asked the host nothing: no other leaf of the plain reader's
 -- programs is one.
 -- Assumes nothing.
 use Prim.Native.Nat.{ℕ, zero, suc, _-_, min}
@@ -12,13 +12,14 @@ use lib.ListN.{length, take, drop, length-append}
 use Rattle.protocol.specs.Answers as A
 use Rattle.protocol.specs.Answers.{Answer, End, closed, error}
 use Rattle.protocol.specs.Bytes.{pick, same}
-use Rattle.protocol.specs.Calls.{Version, v1, v2, Call, call, nextEntry, nextChunk, messages}
+use Rattle.protocol.specs.Calls.{Version, v1, v2, Call, call, nextEntry, nextChunk, messages, Made}
+use Rattle.protocol.specs.Hours.{Hours}
 use Rattle.protocol.specs.Ids.{Dialect, FAIL}
 use Rattle.protocol.specs.Messages.{stat, sta2, list, lis2, recv, ask, rcv2, send, snd2, chunk, done, quit}
 use Rattle.protocol.specs.Reader.{Prog, answer, need, skip, ended, short, plain, drain, failing, Way, amongWays, nextOn, next, taking, statWays, entryWays, chunkWays, okayWays, Config, Report, accepted, broke, closing, written, pushBroke, writeBroke, onReport, unlessRefused, program, isQuit, configAfter, endOf, reply, plainCall}
 use Rattle.protocol.specs.Records.{idAt, argAt, Stat2, stat2At}
-use Rattle.protocol.specs.Refusal.{Setting, orElse, refuse, requestRefusal, refusal}
-use Rattle.session.specs.Faithful.{AllAtNeeds, comesOut, piecesOf, unlessPieces, callPieces, Accepted, closesFor, replyOf, AsReader, Faithful}
+use Rattle.protocol.specs.Refusal.{Setting, orElse, refuse, requestRefusal, refusal, turned}
+use Rattle.session.specs.Faithful.{AllAtNeeds, comesOut, piecesOf, unlessPieces, callPieces, Accepted, closesFor, replyOf, AsReader, AsMade, Faithful}
 use Rattle.session.specs.Host.{Ask, Broken, Stop, Entry, outcomeOf}
 use Rattle.session_layer.specs.Layer.{wasRefused}
 
@@ -184,13 +185,20 @@ entry-unasked g e q v x r z =
     let o = none-offered (callPieces g q (length (x .held))) (x .pieces) (x .broken) (ap (λ (y : Option Answer). unlessPieces y (piecesOf (g .setting .dialect) (g .capacity - length (x .held)) (messages q))) s) (r .pieces) in
     (none-asked g (outcomeOf (x .broken)) q v (x .pieces) (x .asks) a s (r .asks), (o .0, (o .1, r .closes ∙ none-closed (g .setting) q (x .pieces) a s)))
 
+-- .. nor where the hours turned it away
+made-unasked : (b : Bool) (g : Config) (e : End) (q : Call) (v : List ℕ) (x : Entry) → AsMade b g e q v x → wasRefused (x .answer) ≡ true
+    → Unasked (x .asks) (x .pieces) (x .broken) (x .closes)
+made-unasked true g e q v x r z = (r .asks, (r .pieces, (r .broken, r .closes)))
+made-unasked false g e q v x r z = entry-unasked g e q v x r z
+
 -- .. in every call of a log
 abbrev pub RefusedUnasked : List Entry → Type 0
 RefusedUnasked [] = Unit {0}
 RefusedUnasked (x ∷ xs) = (wasRefused (x .answer) ≡ true → Unasked (x .asks) (x .pieces) (x .broken) (x .closes)) × RefusedUnasked xs
 
-pub log-unasked : (e : End) (g : Config) (qs : List Call) (v : List ℕ) (es : List Entry) → Faithful g e qs v es → RefusedUnasked es
-log-unasked e g [] v [] f = tt
-log-unasked e g [] v (x ∷ es) f = absurd f
-log-unasked e g (q ∷ qs) v [] f = absurd f
-log-unasked e g (q ∷ qs) v (x ∷ es) (f, fs) = (entry-unasked g e q v x f, log-unasked e (configAfter g q) qs (x .unread) es fs)
+pub log-unasked : (h : Option Hours) (e : End) (g : Config) (ms : List Made) (v : List ℕ) (es : List Entry) → Faithful h g e ms v es → RefusedUnasked es
+log-unasked h e g [] v [] f = tt
+log-unasked h e g [] v (x ∷ es) f = absurd f
+log-unasked h e g (m ∷ ms) v [] f = absurd f
+log-unasked h e g (m ∷ ms) v (x ∷ es) (f, fs) =
+    (made-unasked (turned h (g .setting) m) g e (m .call) v x f, log-unasked h e (configAfter g (m .call)) ms (x .unread) es fs)

@@ -13,7 +13,8 @@ use lib.ListN.{length, take, drop, length-drop, length-append}
 use lib.Seq.{length-take-le}
 use Rattle.protocol.specs.Answers.{Answer, End}
 use Rattle.protocol.specs.Bytes.{pick}
-use Rattle.protocol.specs.Calls.{Call}
+use Rattle.protocol.specs.Calls.{Made}
+use Rattle.protocol.specs.Hours.{Hours}
 use Rattle.protocol.specs.Reader.{Config, Report, accepted, broke, configAfter}
 use Rattle.session.specs.Demand3.{AllWide}
 use Rattle.session.specs.Faithful.{Faithful}
@@ -83,8 +84,8 @@ total [] = 0
 total (e ∷ es) = sizes (e .pieces) + total es
 
 -- from here on every list of calls is the plain reader's
-abbrev pub Always : {X : Type 0} → Engine X → Host → Config → List ℕ → World → X → (rx msg : List ℕ) → Type 0
-Always E h g v w x rx msg = (qs : List Call) → AllWide qs → Faithful g (h .end) qs v (logOf E h qs w x rx msg)
+abbrev pub Always : {X : Type 0} → Engine X → Host → Option Hours → Config → List ℕ → World → X → (rx msg : List ℕ) → Type 0
+Always E h t g v w x rx msg = (ms : List Made) → AllWide ms → Faithful t g (h .end) ms v (logOf E h ms w x rx msg)
 
 -- What stands in the layer when a call is over, in y: e is its entry, l the account before it and l′ after it. `P`: what is known of the engine's
 -- session inside, and of the receive buffer.
@@ -265,72 +266,72 @@ module _ {Y X : Type 0} (limit : ℕ) (F : Engine Y) (E : Engine X) (lends : Spa
   -- ---- logs
 
   -- a log that has an entry for each call, and has written fewer bytes than the limit, n before it; a call that was refused has asked nothing
-  abbrev Whole : ℕ → List Call → List Entry → Type 0
-  Whole n qs es = (length es ≡ length qs) × ((n + total es < limit) × RefusedUnasked es)
+  abbrev Whole : ℕ → List Made → List Entry → Type 0
+  Whole n ms es = (length es ≡ length ms) × ((n + total es < limit) × RefusedUnasked es)
 
-  ends-of : (n : ℕ) (q : Call) (qs : List Call) (u : List ℕ) (z : ℕ) (m : List ℕ) (k : World → X → List ℕ → List ℕ → List Entry) (r : Run X)
-      → Whole n (q ∷ qs) (onRun E u z m k r) → Ends n r
-  ends-of n q qs u z m k (over-with x rx msg a w) (e, (f, (g, gs))) = (omega arith, g)
-  ends-of n q qs u z m k unended (e, f) = omega (arith, e)
+  ends-of : (n : ℕ) (c : Made) (ms : List Made) (u : List ℕ) (z : ℕ) (m : List ℕ) (k : World → X → List ℕ → List ℕ → List Entry) (r : Run X)
+      → Whole n (c ∷ ms) (onRun E u z m k r) → Ends n r
+  ends-of n c ms u z m k (over-with x rx msg a w) (e, (f, (g, gs))) = (omega arith, g)
+  ends-of n c ms u z m k unended (e, f) = omega (arith, e)
 
   -- a call from where the relation holds
-  call-same : (q : Call) (l : Account) (w : World) (a : Answer) (y : Y) (x : X) (rx msg : List ℕ) → w .left ≡ l .left → R l (told a) y x → Ends (l .written) (runCall E h q w x rx msg)
-      → Same (lentOf (h .spare w) q) l (runCall F h q w y rx msg) (runCall E h q w x rx msg)
-  call-same q l w a y x rx msg e z f =
-      let t : Step Y = F .start y rx msg q (h .spare w) in
-      let s : Step X = E .start x rx msg q (h .spare w) in
-      same-run (lentOf (h .spare w) q) l (enough q w) (newCall w) t s
-      (subst (λ (m : Account). Alike R m t s) (sym (account-start l w (s .show) e)) (L .start l a y x z rx msg q (h .spare w) (lent-ok w))) f
+  call-same : (c : Made) (l : Account) (w : World) (a : Answer) (y : Y) (x : X) (rx msg : List ℕ) → w .left ≡ l .left → R l (told a) y x → Ends (l .written) (runCall E h c w x rx msg)
+      → Same (lentOf (h .spare w) (c .call)) l (runCall F h c w y rx msg) (runCall E h c w x rx msg)
+  call-same c l w a y x rx msg e z f =
+      let t : Step Y = F .start y rx msg c (h .spare w) in
+      let s : Step X = E .start x rx msg c (h .spare w) in
+      same-run (lentOf (h .spare w) (c .call)) l (enough (c .call) w) (newCall w) t s
+      (subst (λ (m : Account). Alike R m t s) (sym (account-start l w (s .show) e)) (L .start l a y x z rx msg c (h .spare w) (lent-ok w))) f
 
   -- an entry, and what follows
-  entry-same : (l : Account) (lent : List ℕ) (q : Call) (qs : List Call) (u : List ℕ) (z : ℕ) (m : List ℕ)
+  entry-same : (l : Account) (lent : List ℕ) (c : Made) (ms : List Made) (u : List ℕ) (z : ℕ) (m : List ℕ)
       (k : World → Y → List ℕ → List ℕ → List Entry) (k′ : World → X → List ℕ → List ℕ → List Entry)
       → ((w : World) (a : Answer) (y : Y) (x : X) (rx msg : List ℕ) → R (account l w (told a)) (told a) y x
-      → Whole (l .written + sizes (w .pieces)) qs (k′ w x rx msg) → k w y rx msg ≡ k′ w x rx msg)
-      → (e : Run Y) (r : Run X) → Same lent l e r → Whole (l .written) (q ∷ qs) (onRun E u z m k′ r) → onRun F u z m k e ≡ onRun E u z m k′ r
-  entry-same l lent q qs u z m k k′ on e (over-with x rx msg a w) (y, (p, i)) (f, (g, (c, cs))) =
-      ap (onRun F u z m k) p ∙ rw (L .holds _ _ _ _ i rx, L .tail _ _ _ _ i, on w a y x rx msg i (omega (arith, f), (omega arith, cs)))
-  entry-same l lent q qs u z m k k′ on e unended p f = ap (onRun F u z m k) p
+      → Whole (l .written + sizes (w .pieces)) ms (k′ w x rx msg) → k w y rx msg ≡ k′ w x rx msg)
+      → (e : Run Y) (r : Run X) → Same lent l e r → Whole (l .written) (c ∷ ms) (onRun E u z m k′ r) → onRun F u z m k e ≡ onRun E u z m k′ r
+  entry-same l lent c ms u z m k k′ on e (over-with x rx msg a w) (y, (p, i)) (f, (b, (d, ds))) =
+      ap (onRun F u z m k) p ∙ rw (L .holds _ _ _ _ i rx, L .tail _ _ _ _ i, on w a y x rx msg i (omega (arith, f), (omega arith, ds)))
+  entry-same l lent c ms u z m k k′ on e unended p f = ap (onRun F u z m k) p
 
-  pub log-same : (qs : List Call) (l : Account) (w : World) (a : Answer) (y : Y) (x : X) (rx msg : List ℕ) → w .left ≡ l .left → R l (told a) y x
-      → Whole (l .written) qs (logOf E h qs w x rx msg) → logOf F h qs w y rx msg ≡ logOf E h qs w x rx msg
+  pub log-same : (ms : List Made) (l : Account) (w : World) (a : Answer) (y : Y) (x : X) (rx msg : List ℕ) → w .left ≡ l .left → R l (told a) y x
+      → Whole (l .written) ms (logOf E h ms w x rx msg) → logOf F h ms w y rx msg ≡ logOf E h ms w x rx msg
   unfolding logOf
   log-same [] l w a y x rx msg e z f = refl
-  log-same (q ∷ qs) l w a y x rx msg e z f =
+  log-same (c ∷ ms) l w a y x rx msg e z f =
       rw (L .holds _ _ _ _ z rx, L .tail _ _ _ _ z)
-      (entry-same l (lentOf (h .spare w) q) q qs (E .holds x rx) (E .tail x) msg _ _
-      (λ w′ a′ y′ x′ rx′ msg′ z′ f′. log-same qs (account l w′ (told a′)) w′ a′ y′ x′ rx′ msg′ refl z′ f′)
-      (runCall F h q w y rx msg) (runCall E h q w x rx msg)
-      (call-same q l w a y x rx msg e z (ends-of (l .written) q qs (E .holds x rx) (E .tail x) msg (λ w′ x′ rx′ msg′. logOf E h qs w′ x′ rx′ msg′) (runCall E h q w x rx msg) f)) f)
+      (entry-same l (lentOf (h .spare w) (c .call)) c ms (E .holds x rx) (E .tail x) msg _ _
+      (λ w′ a′ y′ x′ rx′ msg′ z′ f′. log-same ms (account l w′ (told a′)) w′ a′ y′ x′ rx′ msg′ refl z′ f′)
+      (runCall F h c w y rx msg) (runCall E h c w x rx msg)
+      (call-same c l w a y x rx msg e z (ends-of (l .written) c ms (E .holds x rx) (E .tail x) msg (λ w′ x′ rx′ msg′. logOf E h ms w′ x′ rx′ msg′) (runCall E h c w x rx msg) f)) f)
 
   -- ---- what stands in F when each call is over
 
-  module _ (P : X → List ℕ → Type 0) (stands : (g : Config) (v : List ℕ) (w : World) (x : X) (rx msg : List ℕ) → Always E h g v w x rx msg → P x rx) where
-    entry-at : (g : Config) (v : List ℕ) (l : Account) (lent : List ℕ) (q : Call) (qs : List Call) (u : List ℕ) (z : ℕ) (m : List ℕ) (k : World → Y → List ℕ → List ℕ → List Y)
-        → ((w : World) (a : Answer) (y : Y) (x : X) (rx msg : List ℕ) → R (account l w (told a)) (told a) y x → Always E h (configAfter g q) (E .holds x rx ++ w .left) w x rx msg
-        → Whole (l .written + sizes (w .pieces)) qs (logOf E h qs w x rx msg) → AtEnds E R P (account l w (told a)) (logOf E h qs w x rx msg) (k w y rx msg))
+  module _ (t : Option Hours) (P : X → List ℕ → Type 0) (stands : (g : Config) (v : List ℕ) (w : World) (x : X) (rx msg : List ℕ) → Always E h t g v w x rx msg → P x rx) where
+    entry-at : (g : Config) (v : List ℕ) (l : Account) (lent : List ℕ) (c : Made) (ms : List Made) (u : List ℕ) (z : ℕ) (m : List ℕ) (k : World → Y → List ℕ → List ℕ → List Y)
+        → ((w : World) (a : Answer) (y : Y) (x : X) (rx msg : List ℕ) → R (account l w (told a)) (told a) y x → Always E h t (configAfter g (c .call)) (E .holds x rx ++ w .left) w x rx msg
+        → Whole (l .written + sizes (w .pieces)) ms (logOf E h ms w x rx msg) → AtEnds E R P (account l w (told a)) (logOf E h ms w x rx msg) (k w y rx msg))
         → (e : Run Y) (r : Run X) → Same lent l e r
-        → ((qs : List Call) → AllWide qs → Faithful g (h .end) (q ∷ qs) v (onRun E u z m (λ w′ x′ rx′ msg′. logOf E h qs w′ x′ rx′ msg′) r))
-        → Whole (l .written) (q ∷ qs) (onRun E u z m (λ w′ x′ rx′ msg′. logOf E h qs w′ x′ rx′ msg′) r)
-        → AtEnds E R P l (onRun E u z m (λ w′ x′ rx′ msg′. logOf E h qs w′ x′ rx′ msg′) r) (endRun k e)
-    entry-at g v l lent q qs u z m k on e (over-with x rx msg a w) (y, (p, i)) always (f, (b, (c, cs))) =
-        let after : Always E h (configAfter g q) (E .holds x rx ++ w .left) w x rx msg = λ qs′ wide. always qs′ wide .1 in
+        → ((ms : List Made) → AllWide ms → Faithful t g (h .end) (c ∷ ms) v (onRun E u z m (λ w′ x′ rx′ msg′. logOf E h ms w′ x′ rx′ msg′) r))
+        → Whole (l .written) (c ∷ ms) (onRun E u z m (λ w′ x′ rx′ msg′. logOf E h ms w′ x′ rx′ msg′) r)
+        → AtEnds E R P l (onRun E u z m (λ w′ x′ rx′ msg′. logOf E h ms w′ x′ rx′ msg′) r) (endRun k e)
+    entry-at g v l lent c ms u z m k on e (over-with x rx msg a w) (y, (p, i)) always (f, (b, (d, ds))) =
+        let after : Always E h t (configAfter g (c .call)) (E .holds x rx ++ w .left) w x rx msg = λ ms′ wide. always ms′ wide .1 in
         rw p (
           account l w (told a),
           (
-            record { x = x; rx = rx; relates = i; known = stands (configAfter g q) (E .holds x rx ++ w .left) w x rx msg after; unread = refl; coming = refl; received = refl; written = refl; reads = refl },
-            on w a y x rx msg i after (omega (arith, f), (omega arith, cs)),
+            record { x = x; rx = rx; relates = i; known = stands (configAfter g (c .call)) (E .holds x rx ++ w .left) w x rx msg after; unread = refl; coming = refl; received = refl; written = refl; reads = refl },
+            on w a y x rx msg i after (omega (arith, f), (omega arith, ds)),
           ),
         )
-    entry-at g v l lent q qs u z m k on e unended p always f = rw p refl
+    entry-at g v l lent c ms u z m k on e unended p always f = rw p refl
 
-    pub log-at : (qs : List Call) → AllWide qs → (g : Config) (v : List ℕ) (l : Account) (w : World) (a : Answer) (y : Y) (x : X) (rx msg : List ℕ) → w .left ≡ l .left → R l (told a) y x
-        → Always E h g v w x rx msg → Whole (l .written) qs (logOf E h qs w x rx msg) → AtEnds E R P l (logOf E h qs w x rx msg) (endsOf F h qs w y rx msg)
+    pub log-at : (ms : List Made) → AllWide ms → (g : Config) (v : List ℕ) (l : Account) (w : World) (a : Answer) (y : Y) (x : X) (rx msg : List ℕ) → w .left ≡ l .left → R l (told a) y x
+        → Always E h t g v w x rx msg → Whole (l .written) ms (logOf E h ms w x rx msg) → AtEnds E R P l (logOf E h ms w x rx msg) (endsOf F h ms w y rx msg)
     unfolding logOf endsOf
     log-at [] wide g v l w a y x rx msg e z always f = refl
-    log-at (q ∷ qs) wide g v l w a y x rx msg e z always f =
-        entry-at g v l (lentOf (h .spare w) q) q qs (E .holds x rx) (E .tail x) msg _
-        (λ w′ a′ y′ x′ rx′ msg′ z′ always′ f′. log-at qs (wide .1) (configAfter g q) (E .holds x′ rx′ ++ w′ .left) (account l w′ (told a′)) w′ a′ y′ x′ rx′ msg′ refl z′ always′ f′)
-        (runCall F h q w y rx msg) (runCall E h q w x rx msg)
-        (call-same q l w a y x rx msg e z (ends-of (l .written) q qs (E .holds x rx) (E .tail x) msg (λ w′ x′ rx′ msg′. logOf E h qs w′ x′ rx′ msg′) (runCall E h q w x rx msg) f))
-        (λ qs′ wide′. always (q ∷ qs′) (wide .0, wide′)) f
+    log-at (c ∷ ms) wide g v l w a y x rx msg e z always f =
+        entry-at g v l (lentOf (h .spare w) (c .call)) c ms (E .holds x rx) (E .tail x) msg _
+        (λ w′ a′ y′ x′ rx′ msg′ z′ always′ f′. log-at ms (wide .1) (configAfter g (c .call)) (E .holds x′ rx′ ++ w′ .left) (account l w′ (told a′)) w′ a′ y′ x′ rx′ msg′ refl z′ always′ f′)
+        (runCall F h c w y rx msg) (runCall E h c w x rx msg)
+        (call-same c l w a y x rx msg e z (ends-of (l .written) c ms (E .holds x rx) (E .tail x) msg (λ w′ x′ rx′ msg′. logOf E h ms w′ x′ rx′ msg′) (runCall E h c w x rx msg) f))
+        (λ ms′ wide′. always (c ∷ ms′) (wide .0, wide′)) f

@@ -11,9 +11,11 @@ use lib.Dec.{ltb}
 use lib.ListN.{length, take, drop, length-append, length-drop, length-take}
 use Rattle.protocol.specs.Answers.{End, tooLarge}
 use Rattle.protocol.specs.Bytes.{pick}
-use Rattle.protocol.specs.Calls.{Call}
+use Rattle.protocol.specs.Calls.{Call, Made}
+use Rattle.protocol.specs.Hours.{Hours}
 use Rattle.protocol.specs.Reader.{Prog, answer, need, skip, ended, short, plain, Config, Report, program, configAfter, endOf, reply, plainCall}
-use Rattle.session.specs.Faithful.{AllAtNeeds, replyOf, Faithful}
+use Rattle.protocol.specs.Refusal.{turned}
+use Rattle.session.specs.Faithful.{AllAtNeeds, replyOf, AsMade, Faithful}
 use Rattle.session.specs.Host.{Ask, Stop, Entry, outcomeOf}
 use Rattle.session_reads.proofs.Turns.{Noted, Stopped, Linked}
 
@@ -48,10 +50,16 @@ abbrev pub UnreadWithin : ℕ → List Entry → Type 0
 UnreadWithin n [] = Unit {0}
 UnreadWithin n (x ∷ xs) = (length (x .unread) ≤ n) × UnreadWithin n xs
 
-pub log-unread-within : (n : ℕ) (e : End) (g : Config) (qs : List Call) (v h l : List ℕ) (es : List Entry) → Faithful g e qs v es → Linked h l es → length v ≤ n → UnreadWithin n es
-log-unread-within n e g [] v h l [] f k b = tt
-log-unread-within n e g [] v h l (x ∷ es) f k b = absurd f
-log-unread-within n e g (q ∷ qs) v h l [] f k b = absurd f
-log-unread-within n e g (q ∷ qs) v h l (x ∷ es) (f, fs) (is, (h′, (l′, (t, (u, ks))))) b =
-    let i : length (x .unread) ≤ n = omega (arith, ap length (f .unread), reply-leaves (x .stopped) g e (outcomeOf (x .broken)) q v (x .pieces) (x .asks) (f .asks) (t .stops)) in
-    (i, log-unread-within n e (configAfter g q) qs (x .unread) h′ l′ es fs ks i)
+-- one that the hours turned away leaves all
+made-leaves : (b : Bool) (g : Config) (e : End) (q : Call) (v : List ℕ) (x : Entry) → AsMade b g e q v x → Stopped (x .stopped) (x .asks) → length (x .unread) ≤ length v
+made-leaves true g e q v x f s = omega (arith, ap length (f .unread))
+made-leaves false g e q v x f s = omega (arith, ap length (f .unread), reply-leaves (x .stopped) g e (outcomeOf (x .broken)) q v (x .pieces) (x .asks) (f .asks) s)
+
+pub log-unread-within : (n : ℕ) (t : Option Hours) (e : End) (g : Config) (ms : List Made) (v h l : List ℕ) (es : List Entry) → Faithful t g e ms v es → Linked h l es → length v ≤ n
+    → UnreadWithin n es
+log-unread-within n t e g [] v h l [] f k b = tt
+log-unread-within n t e g [] v h l (x ∷ es) f k b = absurd f
+log-unread-within n t e g (m ∷ ms) v h l [] f k b = absurd f
+log-unread-within n t e g (m ∷ ms) v h l (x ∷ es) (f, fs) (is, (h′, (l′, (u, (z, ks))))) b =
+    let i : length (x .unread) ≤ n = omega (arith, made-leaves (turned t (g .setting) m) g e (m .call) v x f (u .stops)) in
+    (i, log-unread-within n t e (configAfter g (m .call)) ms (x .unread) h′ l′ es fs ks i)

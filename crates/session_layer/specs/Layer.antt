@@ -9,7 +9,8 @@ use mathlib.Core.Path.{_≡_}
 use lib.ListN.{length, drop}
 use Rattle.protocol.specs.Answers.{Answer, End, done, number, callers}
 use Rattle.protocol.specs.Bytes.{pick, has}
-use Rattle.protocol.specs.Calls.{Call}
+use Rattle.protocol.specs.Calls.{Made}
+use Rattle.protocol.specs.Refusal.{closedHours}
 use Rattle.session.specs.Demand3.{Opening, System}
 use Rattle.session.specs.Host.{Show, told, read, writeRx, writeLent, writeBytes, close, Spare, Step, Engine, Host, Ask, World, Run, over-with, unended, runCall}
 
@@ -42,9 +43,9 @@ Asks (writeLent at len) = Unit {0}
 Asks (writeBytes b) = Unit {0}
 Asks close = Unit {0}
 
--- the call was refused: its answer's number is one of the caller's, 1 to 11
+-- the call was refused: its answer's number is one of the caller's, 1 to 11, or 25, the hours'
 abbrev pub wasRefused : Answer → Bool
-wasRefused a = has (number a) callers
+wasRefused a = has (number a) (closedHours ∷ callers)
 
 -- a refusal is told
 abbrev pub tellsRefusal : Show → Bool
@@ -92,8 +93,8 @@ Alike {Y} R l t s = (y : Y) × ((t ≡ under y s) × R l (s .show) y (s .x))
 pub record Layer {Y X : Type 0} (limit : ℕ) (F : Engine Y) (E : Engine X) (lends : Spare → Type 0) (R : Account → Show → Y → X → Type 0) : Type 0 where
   pub holds : (l : Account) (sh : Show) (y : Y) (x : X) → R l sh y x → (rx : List ℕ) → F .holds y rx ≡ E .holds x rx
   pub tail : (l : Account) (sh : Show) (y : Y) (x : X) → R l sh y x → F .tail y ≡ E .tail x
-  pub start : (l : Account) (a : Answer) (y : Y) (x : X) → R l (told a) y x → (rx msg : List ℕ) (q : Call) (z : Spare) → lends z
-      → Alike R (starting (E .start x rx msg q z .show) l) (F .start y rx msg q z) (E .start x rx msg q z)
+  pub start : (l : Account) (a : Answer) (y : Y) (x : X) → R l (told a) y x → (rx msg : List ℕ) (m : Made) (z : Spare) → lends z
+      → Alike R (starting (E .start x rx msg m z .show) l) (F .start y rx msg m z) (E .start x rx msg m z)
   pub onRead : (l : Account) (at len : ℕ) (y : Y) (x : X) → R l (read at len) y x → (rx msg lent : List ℕ) (k : ℕ) (z : Spare) → lends z
       → 0 < k → k ≤ len → k ≤ length (l .left) → tellsRefusal (E .onRead x rx msg lent k z .show) ≡ false
       → Alike R (reading k l) (F .onRead y rx msg lent k z) (E .onRead x rx msg lent k z)
@@ -131,6 +132,6 @@ abbrev pub endRun : {Y : Type 0} → (World → Y → List ℕ → List ℕ → 
 endRun k (over-with y rx msg a w) = y ∷ k w y rx msg
 endRun k unended = []
 
-unfoldable pub endsOf : {Y : Type 0} → Engine Y → Host → List Call → World → Y → List ℕ → List ℕ → List Y
+unfoldable pub endsOf : {Y : Type 0} → Engine Y → Host → List Made → World → Y → List ℕ → List ℕ → List Y
 endsOf F h [] w y rx msg = []
-endsOf F h (q ∷ qs) w y rx msg = endRun (λ w′ y′ rx′ msg′. endsOf F h qs w′ y′ rx′ msg′) (runCall F h q w y rx msg)
+endsOf F h (m ∷ ms) w y rx msg = endRun (λ w′ y′ rx′ msg′. endsOf F h ms w′ y′ rx′ msg′) (runCall F h m w y rx msg)

@@ -13,12 +13,14 @@ use lib.ListN.{length, take, drop, length-append, length-drop, length-take}
 use lib.Seq.{take-take, take-at, take-length}
 use Rattle.protocol.specs.Answers.{Answer, End}
 use Rattle.protocol.specs.Bytes.{pick}
-use Rattle.protocol.specs.Calls.{Call}
+use Rattle.protocol.specs.Calls.{Call, Made}
+use Rattle.protocol.specs.Hours.{Hours}
 use Rattle.protocol.specs.Reader.{Prog, Result, ended, short, plain, Config, Report, program, configAfter, endOf, Reply, reply, plainCall}
+use Rattle.protocol.specs.Refusal.{turned}
 use Rattle.protocol_reads.specs.Reads.{Tally, still, oneMore, readsOf, callReads, Positive, OffLink}
 use Rattle.protocol_reads.proofs.Ceiling.{program-tight, reads-ceiling}
 use Rattle.protocol_reads.proofs.Rerun.{isShort, left, reading, rerun, Settles, Walks, walks}
-use Rattle.session.specs.Faithful.{AtNeed, Brought, AllAtNeeds, cameBy, comesOut, cameOf, replyOf, AsReader, Faithful}
+use Rattle.session.specs.Faithful.{AtNeed, Brought, AllAtNeeds, cameBy, comesOut, cameOf, replyOf, AsReader, AsMade, Faithful}
 use Rattle.session.specs.Host.{Ask, Stop, Entry, outcomeOf}
 use Rattle.session_reads.specs.Counted.{readsIn, lengthsIn, lengthsOf, Counted, UnderCeiling}
 use Rattle.session_reads.proofs.Turns.{Chained, AtEnd, Noted, Stopped, Turn, Linked}
@@ -237,23 +239,55 @@ positive-of : (es : List Entry) → Positive (lengthsOf es [])
 positive-of [] = tt
 positive-of (x ∷ xs) = positive-in (x .asks) (lengthsOf xs []) (positive-of xs)
 
-pub log-counted : (e : End) (g : Config) (qs : List Call) (h l : List ℕ) (es : List Entry) → Faithful g e qs (h ++ l) es → Linked h l es
-    → (more : List ℕ) → Counted g qs (h ++ l) (length h) (lengthsOf es more) more es
-log-counted e g [] h l [] f k more = refl
-log-counted e g [] h l (x ∷ xs) f k more = absurd f
-log-counted e g (q ∷ qs) h l [] f k more = absurd f
-log-counted e g (q ∷ qs) h l (x ∷ xs) (f, fs) (is, (h′, (l′, (t, (n, ks))))) more = (
-  call-reads g e q h l x f is h′ l′ t n (lengthsOf xs more),
-  rw (call-come g e q h l x f is h′ l′ t n (lengthsOf xs more), call-lengths g e q h l x f is h′ l′ t n (lengthsOf xs more), n)
-      (log-counted e (configAfter g q) qs h′ l′ xs (subst (λ (y : List ℕ). Faithful (configAfter g q) e qs y xs) n fs) ks more),
-)
+-- b: the hours turned the call away
+abbrev madeTally : Bool → Config → Call → (h l : List ℕ) → Entry → List ℕ → Tally
+madeTally b g q h l x ks = pick b (still (length h) (lengthsIn (x .asks) ks)) (callReads g (outcomeOf (x .broken)) q (cameOf (x .stopped) (h ++ l)) (length h) (lengthsIn (x .asks) ks))
 
-pub log-ceiling : (e : End) (g : Config) (qs : List Call) (h l : List ℕ) (es : List Entry) → Faithful g e qs (h ++ l) es → Linked h l es
+record OfMade (b : Bool) (g : Config) (q : Call) (h l : List ℕ) (x : Entry) (h′ ks : List ℕ) : Type 0 where
+  reads : readsIn (x .asks) ≡ madeTally b g q h l x ks .reads
+  come : madeTally b g q h l x ks .come ≡ length h′
+  lengths : madeTally b g q h l x ks .lengths ≡ ks
+  ceiling : Positive ks → OffLink (x .answer) → readsIn (x .asks) + length (x .unread) ≤ length (h ++ l) + 8
+
+-- a call that was turned away read nothing: what was held and what was to come is so still
+made-ok : (b : Bool) (g : Config) (e : End) (q : Call) (h l : List ℕ) (x : Entry) → AsMade b g e q (h ++ l) x → x .held ≡ h → (h′ l′ : List ℕ)
+    → Turn l (x .asks) (x .stopped) l′ → x .unread ≡ h′ ++ l′ → (ks : List ℕ) → OfMade b g q h l x h′ ks
+made-ok false g e q h l x f is h′ l′ t n ks =
+    record {
+      reads = call-reads g e q h l x f is h′ l′ t n ks;
+      come = call-come g e q h l x f is h′ l′ t n ks;
+      lengths = call-lengths g e q h l x f is h′ l′ t n ks;
+      ceiling = call-ceiling g e q h l x f is h′ l′ t n ks;
+    }
+made-ok true g e q h l x f is h′ l′ t n ks =
+    let same : l′ ≡ l = subst (λ (xs : List Ask). Chained l xs l′) (f .asks) (t .chain) in
+    let none-read : readsIn (x .asks) ≡ 0 = ap readsIn (f .asks) in
+    let size : length (h ++ l) ≡ length (h′ ++ l′) = ap length (sym (f .unread) ∙ n) in
+    record {
+      reads = none-read;
+      come = omega (arith, size, length-append h l, length-append h′ l′, ap length same);
+      lengths = ap (λ (xs : List Ask). lengthsIn xs ks) (f .asks);
+      ceiling = λ o z. omega (arith, none-read, ap length (f .unread));
+    }
+
+pub log-counted : (t : Option Hours) (e : End) (g : Config) (ms : List Made) (h l : List ℕ) (es : List Entry) → Faithful t g e ms (h ++ l) es → Linked h l es
+    → (more : List ℕ) → Counted t g ms (h ++ l) (length h) (lengthsOf es more) more es
+log-counted t e g [] h l [] f k more = refl
+log-counted t e g [] h l (x ∷ xs) f k more = absurd f
+log-counted t e g (m ∷ ms) h l [] f k more = absurd f
+log-counted t e g (m ∷ ms) h l (x ∷ xs) (f, fs) (is, (h′, (l′, (u, (n, ks))))) more =
+    let o = made-ok (turned t (g .setting) m) g e (m .call) h l x f is h′ l′ u n (lengthsOf xs more) in (
+      o .reads,
+      rw (o .come, o .lengths, n)
+          (log-counted t e (configAfter g (m .call)) ms h′ l′ xs (subst (λ (y : List ℕ). Faithful t (configAfter g (m .call)) e ms y xs) n fs) ks more),
+    )
+
+pub log-ceiling : (t : Option Hours) (e : End) (g : Config) (ms : List Made) (h l : List ℕ) (es : List Entry) → Faithful t g e ms (h ++ l) es → Linked h l es
     → UnderCeiling (h ++ l) es
-log-ceiling e g [] h l [] f k = tt
-log-ceiling e g [] h l (x ∷ xs) f k = absurd f
-log-ceiling e g (q ∷ qs) h l [] f k = absurd f
-log-ceiling e g (q ∷ qs) h l (x ∷ xs) (f, fs) (is, (h′, (l′, (t, (n, ks))))) = (
-  call-ceiling g e q h l x f is h′ l′ t n (lengthsOf xs []) (positive-of xs),
-  rw n (log-ceiling e (configAfter g q) qs h′ l′ xs (subst (λ (y : List ℕ). Faithful (configAfter g q) e qs y xs) n fs) ks),
+log-ceiling t e g [] h l [] f k = tt
+log-ceiling t e g [] h l (x ∷ xs) f k = absurd f
+log-ceiling t e g (m ∷ ms) h l [] f k = absurd f
+log-ceiling t e g (m ∷ ms) h l (x ∷ xs) (f, fs) (is, (h′, (l′, (u, (n, ks))))) = (
+  made-ok (turned t (g .setting) m) g e (m .call) h l x f is h′ l′ u n (lengthsOf xs []) .ceiling (positive-of xs),
+  rw n (log-ceiling t e (configAfter g (m .call)) ms h′ l′ xs (subst (λ (y : List ℕ). Faithful t (configAfter g (m .call)) e ms y xs) n fs) ks),
 )

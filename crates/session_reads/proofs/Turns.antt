@@ -11,7 +11,7 @@ use lib.Dec.{ltb, leb}
 use lib.ListN.{length, take, drop}
 use Rattle.protocol.specs.Answers.{Answer, End}
 use Rattle.protocol.specs.Bytes.{pick}
-use Rattle.protocol.specs.Calls.{Call}
+use Rattle.protocol.specs.Calls.{Made}
 use Rattle.protocol.specs.Reader.{Report, accepted, broke}
 use Rattle.session.specs.Host.{Show, told, read, writeRx, writeLent, writeBytes, close, Step, Engine, Host, Ask, Stop, World, newCall, hasRead, hasStopped, composing, counted, lentOf, Run, over-with, unended, asking, grantRead, grantWrite, grantClose, granted, run, enough, runCall, Entry, onRun, logOf}
 
@@ -101,10 +101,10 @@ module _ {X : Type 0} (E : Engine X) (h : Host) where
   entry-linked lent l held tail msg k (over-with x rx msg′ a w) o on = (refl, (E .holds x rx, (w .left, (o, (refl, on w x rx msg′)))))
   entry-linked lent l held tail msg k unended o on = tt
 
-  pub log-linked : (qs : List Call) (w : World) (x : X) (rx msg : List ℕ) → Linked (E .holds x rx) (w .left) (logOf E h qs w x rx msg)
+  pub log-linked : (ms : List Made) (w : World) (x : X) (rx msg : List ℕ) → Linked (E .holds x rx) (w .left) (logOf E h ms w x rx msg)
   unfolding logOf
   log-linked [] w x rx msg = tt
-  log-linked (q ∷ qs) w x rx msg =
-      entry-linked (lentOf (h .spare w) q) (w .left) (E .holds x rx) (E .tail x) msg _ (runCall E h q w x rx msg)
-      (run-turn (lentOf (h .spare w) q) (w .left) (enough q w) (newCall w) (E .start x rx msg q (h .spare w)) (record { chain = refl; stops = tt }))
-      (λ w′ x′ rx′ msg′. log-linked qs w′ x′ rx′ msg′)
+  log-linked (m ∷ ms) w x rx msg =
+      entry-linked (lentOf (h .spare w) (m .call)) (w .left) (E .holds x rx) (E .tail x) msg _ (runCall E h m w x rx msg)
+      (run-turn (lentOf (h .spare w) (m .call)) (w .left) (enough (m .call) w) (newCall w) (E .start x rx msg m (h .spare w)) (record { chain = refl; stops = tt }))
+      (λ w′ x′ rx′ msg′. log-linked ms w′ x′ rx′ msg′)

@@ -2,13 +2,15 @@
 -- Assumes nothing.
 use Prim.Native.Nat.{ℕ, _+_, _≤_, _<_, _^_}
 use mathlib.Core.List.{List, [], _∷_}
+use mathlib.Core.Option.{Option}
 use mathlib.Core.Path.{_≡_}
 use lib.Dec.{ltb}
 use lib.ListN.{length}
 use Rattle.protocol.specs.Bytes.{pick, Bytes}
-use Rattle.protocol.specs.Calls.{Call}
+use Rattle.protocol.specs.Calls.{Made}
+use Rattle.protocol.specs.Hours.{Hours}
 use Rattle.protocol.specs.Reader.{Config, Report, configAfter, plainCall}
-use Rattle.protocol_reads.specs.Reads.{Tally, callReads, plainReads, OffLink}
+use Rattle.protocol_reads.specs.Reads.{Tally, madeReads, plainReads, OffLink}
 use Rattle.session.specs.Demand3.{Opening, System, Side, AllWide, CodedReport, reader, logFrom, Bound, Within}
 use Rattle.session.specs.EveryHost.{CodedHost}
 use Rattle.session.specs.Faithful.{cameOf}
@@ -35,13 +37,13 @@ countsOf (x ∷ xs) = readsIn (x .asks) ∷ countsOf xs
 
 -- Each call's reads are the plain reader's: of the unread bytes v, `come` have come, and the lengths ks are of the reads to be made. In the end `more` are left: a reader
 -- that would go on reading, had it another length, has one.
-abbrev pub Counted : Config → List Call → (v : List ℕ) → (come : ℕ) → (ks more : List ℕ) → List Entry → Type 0
-Counted g [] v i ks more es = ks ≡ more
-Counted g (q ∷ qs) v i ks more [] = ⊥
-Counted g (q ∷ qs) v i ks more (x ∷ xs) =
-    (readsIn (x .asks) ≡ callReads g (outcomeOf (x .broken)) q (cameOf (x .stopped) v) i ks .reads)
-    × Counted (configAfter g q) qs (x .unread) (callReads g (outcomeOf (x .broken)) q (cameOf (x .stopped) v) i ks .come)
-    (callReads g (outcomeOf (x .broken)) q (cameOf (x .stopped) v) i ks .lengths) more xs
+abbrev pub Counted : Option Hours → Config → List Made → (v : List ℕ) → (come : ℕ) → (ks more : List ℕ) → List Entry → Type 0
+Counted h g [] v i ks more es = ks ≡ more
+Counted h g (m ∷ ms) v i ks more [] = ⊥
+Counted h g (m ∷ ms) v i ks more (x ∷ xs) =
+    (readsIn (x .asks) ≡ madeReads h g (outcomeOf (x .broken)) m (cameOf (x .stopped) v) i ks .reads)
+    × Counted h (configAfter g (m .call)) ms (x .unread) (madeReads h g (outcomeOf (x .broken)) m (cameOf (x .stopped) v) i ks .come)
+    (madeReads h g (outcomeOf (x .broken)) m (cameOf (x .stopped) v) i ks .lengths) more xs
 
 -- "every call ending in anything but 12 or 13 accepted at most 8 more reads than bytes it consumed"
 abbrev pub UnderCeiling : (v : List ℕ) → List Entry → Type 0
@@ -52,12 +54,12 @@ UnderCeiling v (x ∷ xs) = (OffLink (x .answer) → readsIn (x .asks) + length 
 abbrev pub EveryRead : {X : Type 0} → Bound → System X → Type 0
 EveryRead {X} W S =
     (o : Opening) (x : X) (rx msg : List ℕ) → S .place x → 8 ≤ length rx → length rx ≤ length msg → length msg < 2 ^ 63
-    → (h : Host) → CodedHost h → ((w : World) → S .lends (h .spare w)) → (qs : List Call) → AllWide qs → (incoming : List ℕ) → Bytes incoming
-    → Within W (reader o (length rx) (h .close)) qs incoming
-    → ((more : List ℕ) → Counted (reader o (length rx) (h .close)) qs incoming 0
-    (lengthsOf (logOf (S .engine) h qs (atStart incoming) (S .opened x o rx msg .x) rx msg) more) more
-    (logOf (S .engine) h qs (atStart incoming) (S .opened x o rx msg .x) rx msg))
-    × UnderCeiling incoming (logOf (S .engine) h qs (atStart incoming) (S .opened x o rx msg .x) rx msg)
+    → (h : Host) → CodedHost h → ((w : World) → S .lends (h .spare w)) → (ms : List Made) → AllWide ms → (incoming : List ℕ) → Bytes incoming
+    → Within W (o .hours) (reader o (length rx) (h .close)) ms incoming
+    → ((more : List ℕ) → Counted (o .hours) (reader o (length rx) (h .close)) ms incoming 0
+    (lengthsOf (logOf (S .engine) h ms (atStart incoming) (S .opened x o rx msg .x) rx msg) more) more
+    (logOf (S .engine) h ms (atStart incoming) (S .opened x o rx msg .x) rx msg))
+    × UnderCeiling incoming (logOf (S .engine) h ms (atStart incoming) (S .opened x o rx msg .x) rx msg)
 
 -- nothing is held when a session is opened
 abbrev pub OpensEmpty : {X : Type 0} → System X → Type 0
@@ -66,5 +68,5 @@ OpensEmpty {X} S = (o : Opening) (x : X) (rx msg : List ℕ) → S .place x → 
 -- the same in one list, of a side of demand 3
 abbrev pub SideReads : {X : Type 0} → Bound → System X → Type 0
 SideReads {X} W S =
-    (o : Opening) (close : Report) (qs : List Call) (c : ℕ) → 8 ≤ c → CodedReport close → AllWide qs → (a : Side S c close) → Within W (reader o c close) qs (a .incoming)
-    → (more : List ℕ) → countsOf (logFrom S o qs a) ≡ plainReads (reader o c close) (a .host .end) qs (a .incoming) 0 (lengthsOf (logFrom S o qs a) more)
+    (o : Opening) (close : Report) (ms : List Made) (c : ℕ) → 8 ≤ c → CodedReport close → AllWide ms → (a : Side S c close) → Within W (o .hours) (reader o c close) ms (a .incoming)
+    → (more : List ℕ) → countsOf (logFrom S o ms a) ≡ plainReads (o .hours) (reader o c close) (a .host .end) ms (a .incoming) 0 (lengthsOf (logFrom S o ms a) more)

@@ -8,7 +8,7 @@ use lib.ListN.{replicate}
 use Rattle.protocol.specs.Answers as A
 use Rattle.protocol.specs.Answers.{Answer, closed, error}
 use Rattle.protocol.specs.Bytes.{ascii}
-use Rattle.protocol.specs.Calls.{Call, call}
+use Rattle.protocol.specs.Calls.{Call, call, anytimes}
 use Rattle.protocol.specs.Fact.{Fact}
 use Rattle.protocol.specs.Ids.{published}
 use Rattle.protocol.specs.Messages.{ask, stat, quit}
@@ -66,7 +66,7 @@ abbrev twice : (first second : List Ask) → List Entry
 twice xs ys = entry A.done xs Option.none reply ∷ entry A.done ys Option.none [] ∷ []
 
 abbrev Counts : (lengths : List ℕ) → List Entry → Type 0
-Counts ks es = Counted config (stats ∷ stats ∷ []) (reply ++ reply) 0 (ks ++ 1 ∷ 1 ∷ []) (1 ∷ 1 ∷ []) es
+Counts ks es = Counted Option.none config (anytimes (stats ∷ stats ∷ [])) (reply ++ reply) 0 (ks ++ 1 ∷ 1 ∷ []) (1 ∷ 1 ∷ []) es
 
 -- a stat whose second read comes to a fault with 13 bytes to come, and one that goes on with them
 abbrev stumbled : List Entry
@@ -80,7 +80,7 @@ foreign = ascii "QUIT" ++ replicate 4 0
 
 abbrev Strange : (lengths : List ℕ) → List Ask → Type 0
 Strange ks xs =
-    Counted config (stats ∷ stats ∷ []) foreign 0 (ks ++ 1 ∷ 1 ∷ []) (1 ∷ 1 ∷ [])
+    Counted Option.none config (anytimes (stats ∷ stats ∷ [])) foreign 0 (ks ++ 1 ∷ 1 ∷ []) (1 ∷ 1 ∷ [])
     (entry (A.unexpected (ascii "QUIT")) xs Option.none foreign ∷ entry (A.unexpected (ascii "QUIT")) [] Option.none foreign ∷ [])
 
 -- a stat whose write came to a fault
@@ -110,17 +110,17 @@ pub record Counting : Type 0 where
   pub left-over : Counts (3 ∷ 13 ∷ 16 ∷ 1 ∷ []) (twice (read 13 ∷ read 3 ∷ []) (read 16 ∷ [])) → ⊥
   pub exchanged : Counts (3 ∷ 13 ∷ 16 ∷ []) (twice (read 16 ∷ []) (read 13 ∷ read 3 ∷ [])) → ⊥
   -- what came before a fault has come
-  pub goes-on : Counted config (stats ∷ stats ∷ []) reply 0 (3 ∷ 13 ∷ 1 ∷ []) (1 ∷ []) stumbled
+  pub goes-on : Counted Option.none config (anytimes (stats ∷ stats ∷ [])) reply 0 (3 ∷ 13 ∷ 1 ∷ []) (1 ∷ []) stumbled
   -- what a call left unread is there for the next; a call whose write came to a fault reads nothing, nor does one after a quit
-  pub next : Counted config (stats ∷ stats ∷ []) (reply ++ foreign) 0 (16 ∷ 8 ∷ 1 ∷ []) (1 ∷ [])
+  pub next : Counted Option.none config (anytimes (stats ∷ stats ∷ [])) (reply ++ foreign) 0 (16 ∷ 8 ∷ 1 ∷ []) (1 ∷ [])
       (entry A.done (read 16 ∷ []) Option.none foreign ∷ entry (A.unexpected (ascii "QUIT")) (read 8 ∷ []) Option.none foreign ∷ [])
-  pub unwritten : Counted config (stats ∷ []) reply 0 (1 ∷ []) (1 ∷ []) (unwrittenStat ∷ [])
-  pub after-quit : Counted config (call quit ∷ stats ∷ []) reply 0 (1 ∷ []) (1 ∷ []) (entry A.done [] Option.none reply ∷ entry (A.refused 6) [] Option.none reply ∷ [])
+  pub unwritten : Counted Option.none config (anytimes (stats ∷ [])) reply 0 (1 ∷ []) (1 ∷ []) (unwrittenStat ∷ [])
+  pub after-quit : Counted Option.none config (anytimes (call quit ∷ stats ∷ [])) reply 0 (1 ∷ []) (1 ∷ []) (entry A.done [] Option.none reply ∷ entry (A.refused 6) [] Option.none reply ∷ [])
   -- 15 once a header has come; and not once its id has, for more would have been read
   pub whole : Strange (4 ∷ 4 ∷ []) (read 4 ∷ read 4 ∷ [])
   pub early : Strange (4 ∷ []) (read 4 ∷ []) → ⊥
   -- an entry for each call
-  pub missing : Counted config (stats ∷ []) [] 0 [] [] [] → ⊥
+  pub missing : Counted Option.none config (anytimes (stats ∷ [])) [] 0 [] [] [] → ⊥
 
 -- ---- the ceiling, of 8 bytes of which some are left
 

@@ -13,13 +13,14 @@ use lib.ListN.{length, getD, take, drop}
 use Rattle.protocol.specs.Answers as A
 use Rattle.protocol.specs.Answers.{Answer, End}
 use Rattle.protocol.specs.Bytes.{Bytes, pick, same, has, numberAt}
-use Rattle.protocol.specs.Calls.{Version, v1, v2, Call, call, nextEntry, nextChunk}
+use Rattle.protocol.specs.Calls.{Version, v1, v2, Call, call, nextEntry, nextChunk, Made}
 use Rattle.protocol.specs.Flags.{bit, dryRun, refusedFlags}
 use Rattle.protocol.specs.Ids.{Dialect, FAIL}
 use Rattle.protocol.specs.Messages.{PathOnly, stat, sta2, list, lis2, recv, Request, ask, rcv2, send, snd2, chunk, done, quit}
-use Rattle.protocol.specs.Reader.{Prog, answer, need, skip, Result, ended, short, plain, drain, failing, Way, amongWays, next, statWays, entryWays, chunkWays, okayWays, Report, accepted, broke, Config, closing, written, unlessRefused, program, reply, plainCall, configAfter, plainAnswers}
+use Rattle.protocol.specs.Reader.{Prog, answer, need, skip, Result, ended, short, plain, drain, failing, Way, amongWays, next, statWays, entryWays, chunkWays, okayWays, Report, accepted, broke, Config, closing, written, unlessRefused, program, reply, plainCall, configAfter, plainMade, plainAnswers}
+use Rattle.protocol.specs.Hours.{Hours}
 use Rattle.protocol.specs.Records.{Stat, idAt, argAt, statAt, dentAt, stat2At}
-use Rattle.protocol.specs.Refusal.{Setting, orElse, refuse, pathRefusal, flagRefusal, featureRefusal, transferRefusal, askFeature, requestRefusal, callRefusal, refusal}
+use Rattle.protocol.specs.Refusal.{Setting, orElse, refuse, pathRefusal, flagRefusal, featureRefusal, transferRefusal, askFeature, requestRefusal, callRefusal, refusal, closedHours, turned}
 use Rattle.protocol.proofs.Bytes.{bytes-drop}
 use Rattle.protocol.proofs.Words.{bytes-take, le-below}
 use Rattle.time_index.specs.Index.{entry, nothing, unknown, offered, Known}
@@ -191,10 +192,23 @@ unfolding offered
 reply-known e (ended a u) h = h
 reply-known e (short n u) h = (quiet, h)
 
-pub plain-known : (g : Config) (e : End) (qs : List Call) (u : List ℕ) → Bytes u → AllKnown (plainAnswers g e qs u)
+made-known : (h : Option Hours) (g : Config) (e : End) (m : Made) (u : List ℕ) → Bytes u → Known (plainMade h g e m u .answer) × Bytes (plainMade h g e m u .unread)
+unfolding offered
+made-known h g e m u b = go (turned h (g .setting) m)
+  where
+    q : Call
+    q = m .call
+
+    go : (x : Bool) → Known (pick x (record { answer = A.refused closedHours; unread = u }) (plainCall g e accepted (m .call) u) .answer)
+        × Bytes (pick x (record { answer = A.refused closedHours; unread = u }) (plainCall g e accepted (m .call) u) .unread)
+    go true = (quiet, b)
+    go false =
+        reply-known e (plain (g .capacity) (program g accepted q) u)
+        (plain-keeps (g .capacity) (program g accepted q) u b (unless-known (written g q) (refusal-known (g .setting) q) (written-known g q)))
+
+pub plain-known : (h : Option Hours) (g : Config) (e : End) (ms : List Made) (u : List ℕ) → Bytes u → AllKnown (plainAnswers h g e ms u)
 unfolding plainAnswers
-plain-known g e [] u b = tt
-plain-known g e (q ∷ qs) u b =
-    let p = unless-known (written g q) (refusal-known (g .setting) q) (written-known g q) in
-    let r = reply-known e (plain (g .capacity) (program g accepted q) u) (plain-keeps (g .capacity) (program g accepted q) u b p) in
-    (r .0, plain-known (configAfter g q) e qs (plainCall g e accepted q u .unread) (r .1))
+plain-known h g e [] u b = tt
+plain-known h g e (m ∷ ms) u b =
+    let r = made-known h g e m u b in
+    (r .0, plain-known h (configAfter g (m .call)) e ms (plainMade h g e m u .unread) (r .1))

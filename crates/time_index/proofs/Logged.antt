@@ -10,18 +10,18 @@ use Rattle.time_index.proofs.Known.{plain-known}
 
 -- of any system that demand 3 is claimed of
 pub logged-claim : {X : Type 0} (W : Bound) (S : System X) → Claim W S → LoggedClaim W S
-logged-claim W S claim o close qs c least coded wide a within s area size narrow ts hears =
+logged-claim W S claim o close ms c least coded wide a within s area size narrow ts hears =
     record {
       known = known;
-      numbers = index-claim .answers s area size narrow ts (plainly S o close qs c a) heards known;
-      holds = index-claim .holds s area size narrow ts (plainly S o close qs c a) heards known;
+      numbers = index-claim .answers s area size narrow ts (plainly S o close ms c a) heards known;
+      holds = index-claim .holds s area size narrow ts (plainly S o close ms c a) heards known;
     }
   where
-    known : AllKnown (plainly S o close qs c a)
-    known = plain-known (reader o c close) (a .host .end) qs (a .incoming) (a .bytes)
+    known : AllKnown (plainly S o close ms c a)
+    known = plain-known (o .hours) (reader o c close) (a .host .end) ms (a .incoming) (a .bytes)
 
-    same : answersOf (logFrom S o qs a) ≡ plainly S o close qs c a
-    same = claim o close qs c c least (omega arith) coded wide a a [] (sym (append-nil (a .incoming))) within within .answers-a
+    same : answersOf (logFrom S o ms a) ≡ plainly S o close ms c a
+    same = claim o close ms c c least (omega arith) coded wide a a [] (sym (append-nil (a .incoming))) within within .answers-a
 
-    heards : Hears ts (plainly S o close qs c a)
+    heards : Hears ts (plainly S o close ms c a)
     heards = subst (Hears ts) same hears

@@ -9,7 +9,7 @@ use mathlib.Core.Path.{_≡_, refl, sym, ap, _∙_, subst}
 use native.Mathlib.Omega.{arith}
 use borrow.Author.Tests.{lt-ltb, ltb-true, leb-false, eq-eqb, eqb-true}
 use lib.Dec.{eqb, leb, ltb}
-use lib.ListN.{length, take, drop}
+use lib.ListN.{length, take, drop, length-append}
 use Rattle.protocol.specs.Answers.{Answer, refused, missing}
 use Rattle.protocol.specs.Bytes.{pick, put}
 use Rattle.protocol.proofs.Bytes.{put-length}
@@ -18,6 +18,7 @@ use Rattle.protocol.specs.Refusal.{orElse, refuse}
 use Rattle.protocol.proofs.Bodies.{pick-cases}
 use Rattle.record.specs.Record.{words, wordOf, size}
 use Rattle.record.proofs.Stored.{stored-length}
+use Rattle.record.proofs.Words.{length-words}
 use Rattle.session.specs.Host.{Show, told, read, writeRx, writeLent, writeBytes, close}
 use Rattle.session_layer.specs.Layer.{asked, Writes}
 use Rattle.boundary.specs.Crossing.{Crossed, crossed, OpenCrossed, crossOpen}
@@ -25,11 +26,12 @@ use Rattle.boundary.specs.Heard.{answerHeard, heard}
 use Rattle.boundary.specs.Told.{replyNumber, replyBytes, outSize}
 use Rattle.boundary.proofs.Reports.{NarrowRefusal, lets, by-number, by-feature}
 use Rattle.boundary_misuse.specs.Claim.{heardOf, Answers, seenAfter, follow}
-use Rattle.boundary_misuse.specs.Misuse.{Act, start, report, hasRead, wrote, fault, Event, Wide, AllWide, acted, Seen, opened, misfits, otherLent, awaited, outside, refusedAt, refusal}
+use Rattle.boundary_misuse.specs.Misuse.{Act, start, report, hasRead, wrote, fault, Event, Wide, AllWide, actedBy, acted, Seen, opened, misfits, otherLent, awaited, outside, refusedAt, refusal}
 use Rattle.boundary_misuse.proofs.Known.{Knows, knows}
 use Rattle.boundary_misuse.proofs.Misuse.{IsSome, known-step, opened-known}
 use Rattle.boundary_misuse.proofs.Table.{table-narrow}
-use Rattle.totals.specs.Card.{totalActed, totalBy, Sums, noSums, adds, sumsAfter, Shows, passes, refusedBy, AnswersBy, EveryMoment, CardClaim}
+use Rattle.totals.specs.System.{totalFunctions}
+use Rattle.totals.specs.Card.{totalBy, Sums, noSums, adds, sumsAfter, Shows, passes, closedTo, refusedBy, AnswersBy, EveryMoment, CardClaim}
 use Rattle.totals.specs.Crossing.{recordSize, limit, overflowed, receivedOf, consumedOf, writtenOf, askedOf, readsOf, countAt, counted, overflowReply, refuses, pieceAsked, totalling, withTotals, overflowing, totalled, totalOpen, totalStart, totalRead, totalWrote, totalFault}
 use Rattle.totals.proofs.Asks.{acted-small}
 use Rattle.totals.proofs.Behind.{heldOf, totalling-is, in-front, whole-size, whole-inner, whole-own, whole-received, whole-consumed, whole-written, whole-asked, whole-reads}
@@ -39,6 +41,11 @@ use Rattle.totals.proofs.Layer.{asks-same, fitting}
 use Rattle.totals.proofs.Sizes.{acted-sized}
 
 -- ---- refusals by their numbers
+
+-- where there are no hours no moment is refused
+pub never-closed : (e : Event) (a : Act) → closedTo none e a ≡ none
+never-closed e (start n a b i) = refl
+never-closed e (report r) = refl
 
 pub refuses-low : (n m : ℕ) → n ≡ 256 * m → 0 < m → m < 12 → refuses n ≡ true
 refuses-low n m e p q =
@@ -50,7 +57,7 @@ or-false true b e = absurd (true≢false e)
 or-false false b e = (refl, e)
 
 last-is : (s : Seen) (e : Event) (a : Act) (sh : Show) → seenAfter s e a sh .last ≡ sh
-last-is s e (start n x y) sh = refl
+last-is s e (start n x y i) sh = refl
 last-is s e (report r) sh = refl
 
 -- a write report that is let in stands where a write or the close was asked
@@ -140,7 +147,7 @@ module _ (s : Seen) (t : Sums) (rec : List ℕ) (h : Holds s t rec) where
 
     -- what a write report adds, whether or not it is refused
     abbrev to : Act → ℕ
-    to (start n a b) = t .written
+    to (start n a b i) = t .written
     to (report (hasRead k)) = t .written
     to (report wrote) = t .written + askedOf rec
     to (report (fault kind code)) = t .written
@@ -155,9 +162,9 @@ module _ (s : Seen) (t : Sums) (rec : List ℕ) (h : Holds s t rec) where
     still-within : (k : ℕ) → k < limit → (y : Crossed) → withTotals rec (t .received) (t .written) k y ≡ totalled rec (e .rx) (e .msg) (e .out) (t .received) (t .written) k y
     still-within k l y = sym (fitting (not (refuses (y .number))) (t .received) (t .written) k _ _ (h .received) (h .written) l)
 
-    made-is : (a : Act) → totalActed rec e a ≡ made a
+    made-is : (a : Act) → actedBy totalFunctions rec e a ≡ made a
     unfolding totalStart totalRead totalWrote totalFault
-    made-is (start n a b) = rw (eq-eqb (length rec) recordSize rec-size, rec-inner, rec-received, rec-written) (still-within 0 (omega arith) (acted (h .x) e (start n a b)))
+    made-is (start n a b i) = rw (eq-eqb (length rec) recordSize rec-size, rec-inner, rec-received, rec-written) (still-within 0 (omega arith) (acted (h .x) e (start n a b i)))
     made-is (report (hasRead k)) = rw (eq-eqb (length rec) recordSize rec-size, rec-inner, rec-received, rec-written, rec-reads)
     made-is (report wrote) = rw (eq-eqb (length rec) recordSize rec-size, rec-inner, rec-received, rec-written, rec-reads)
     made-is (report (fault kind code)) = rw (eq-eqb (length rec) recordSize rec-size, rec-inner, rec-received, rec-written, rec-reads) (still-within (t .reads) (h .reads) (acted (h .x) e (report (fault kind code))))
@@ -179,7 +186,7 @@ module _ (s : Seen) (t : Sums) (rec : List ℕ) (h : Holds s t rec) where
 
     -- let in
     gains : (a : Act) → from a ≡ t .received + gain a
-    gains (start n a b) = omega arith
+    gains (start n a b i) = omega arith
     gains (report (hasRead k)) = omega arith
     gains (report wrote) = omega arith
     gains (report (fault kind code)) = omega arith
@@ -199,7 +206,7 @@ module _ (s : Seen) (t : Sums) (rec : List ℕ) (h : Holds s t rec) where
 
       -- then a write report adds what was asked
       to-is : (a : Act) → e .act ≡ a → to a ≡ adds s t a .written
-      to-is (start n a b) f = refl
+      to-is (start n a b i) f = refl
       to-is (report (hasRead k)) f = refl
       to-is (report wrote) f =
           let awaits : Writes (s .last) = wrote-awaits (s .last) (misfits s e || otherLent s e) (s .ended) (ap (refusedAt s e) (sym f) ∙ z) in
@@ -261,14 +268,15 @@ module _ (s : Seen) (t : Sums) (rec : List ℕ) (h : Holds s t rec) where
     tabled r (by-feature {n = n} i) z a k = refused-result (missing n) (refuses-low (c .number) 10 (a .0) (omega arith) (omega arith)) a
     tabled r lets z a k = subst (Result (refuse (passes t′) (refused overflowed))) (sym (in-is z k)) (let-in-result z k (passes t′) refl)
 
-    event : Result (refusedBy s t e) (totalBy rec e)
+    event : Result (refusedBy none s t e) (totalBy rec e)
     event =
-        subst (Result (refusedBy s t e)) (sym (made-is (e .act)))
-        (let (a, k) = known-step s (h .x) e (h .knows) w in tabled (refusal s e) (table-narrow s e (e .act)) refl a k)
+        subst (Result (refusedBy none s t e)) (sym (made-is (e .act)))
+        (rw (never-closed e (e .act))
+        (let (a, k) = known-step s (h .x) e (h .knows) w in tabled (refusal s e) (table-narrow s e (e .act)) refl a k))
 
 -- ---- every list of them
 
-every-moment : (s : Seen) (t : Sums) (rec : List ℕ) (es : List Event) → Holds s t rec → AllWide es → EveryMoment s t rec es
+every-moment : (s : Seen) (t : Sums) (rec : List ℕ) (es : List Event) → Holds s t rec → AllWide es → EveryMoment totalFunctions none s t rec es
 every-moment s t rec [] h v = shows s t rec h
 every-moment s t rec (e ∷ es) h (w, v) = let (a, k) = event s t rec h e w in (shows s t rec h, (a, every-moment _ _ _ es k v))
 
@@ -308,6 +316,11 @@ module _ (rec settings banner : List ℕ) (c m : ℕ) (wide : m < 2 ^ 63) where
       held-none : heldOf (o .rec) ≤ 0
       held-none = omega (arith, open-held inside settings banner c m z)
 
-pub card : CardClaim
+  pub opened-length : totalOpen rec settings banner c m .number ≡ 0 → length (totalOpen rec settings banner c m .rec) ≡ recordSize
+  opened-length z =
+      let k : length (o .rec) ≡ size = known-size (opened-known inside settings banner c m wide (number-is z)) in
+      ap length (rec-is (number-is z)) ∙ length-append (o .rec) _ ∙ omega (arith, k, length-words (0 ∷ (limit + 0 + wordOf (o .rec) 2 - wordOf (o .rec) 3) ∷ 0 ∷ 0 ∷ 0 ∷ []))
+
+pub card : CardClaim totalFunctions totalOpen (λ settings. none)
 card rec settings banner c m wide z es v =
     every-moment (opened banner c m) noSums _ es (opened-holds rec settings banner c m wide (number-is rec settings banner c m wide z)) v

@@ -1,20 +1,20 @@
--- What is promised of the exported functions of a session beside the card: opening, refusals on any record, what opening wrote, the reads that a reply
+-- What is promised of the functions of a record beside the card, of a session with totals: opening, refusals on any record, what opening wrote, the reads that a reply
 -- tells, and the parts that it names.
 -- Assumes nothing.
 use Prim.Native.Nat.{ℕ, _+_, _-_, _/_, _%_, _≤_, _<_}
 use mathlib.Core.Bool.{Bool, true, false, _&&_, _||_, not, and-eq-true-iff}
-use mathlib.Core.List.{List, [], _++_}
+use mathlib.Core.List.{List, [], _∷_, _++_}
 use mathlib.Core.Logic.{inl, inr}
 use mathlib.Core.Path.{_≡_, refl, sym, ap, _∙_}
 use native.Mathlib.Omega.{arith}
 use borrow.Author.Tests.{eq-eqb, ne-eqb, eqb-true, ltb-true}
 use lib.Dec.{eqb, leb, ltb}
-use lib.ListN.{length, take, drop, take-append-drop}
+use lib.ListN.{length, take, drop, take-append-drop, length-append, length-drop}
 use lib.Seq.{length-take-le}
 use Rattle.protocol.specs.Answers.{refused, callers}
 use Rattle.protocol.specs.Bytes.{Bytes, pick, put}
 use Rattle.protocol.specs.Records.{u64At}
-use Rattle.protocol.specs.Refusal.{orElse, refuse}
+use Rattle.protocol.specs.Refusal.{orElse, refuse, closedHours}
 use Rattle.protocol.proofs.Bodies.{pick-cases}
 use Rattle.protocol.proofs.Bytes.{put-length}
 use Rattle.protocol.proofs.Words.{bytes-take}
@@ -22,19 +22,21 @@ use Rattle.id_table.specs.Settings.{lentIn}
 use Rattle.id_table.specs.declared.Lent.{Lent}
 use Rattle.id_table.specs.declared.Lent.the-variants as L
 use Rattle.record.specs.Record.{wordOf, size}
+use Rattle.record.proofs.Words.{length-words}
 use Rattle.session.specs.Calls.{openRefusal}
 use Rattle.boundary.specs.Crossing.{Crossed, crossed, crossOpen, crossStart, crossRead, crossWrote, crossFault}
 use Rattle.boundary.specs.Told.{replyNumber, replyBytes, outSize}
 use Rattle.boundary_misuse.specs.Claim.{heardOf, Unchanged, Opens}
-use Rattle.boundary_misuse.specs.Misuse.{Act, start, report, hasRead, wrote, fault, Event, Wide, acted, tableRefused, openRefused}
+use Rattle.boundary_misuse.specs.Misuse.{Act, start, report, hasRead, wrote, fault, Event, Wide, actedBy, acted, tableRefused, openRefused}
 use Rattle.boundary_misuse.specs.Settled.{settled as written, SettledClaim}
 use Rattle.boundary_misuse.proofs.Misuse.{call-numbers, lent-some, opens}
 use Rattle.boundary_misuse.proofs.Settled.{settled-stays}
 use Rattle.boundary_misuse.proofs.Unchanged.{Kept, event-kept, listed-below}
 use Rattle.boundary_parts.specs.Bounds.{toldPart, named, InBounds, PartsInside}
 use Rattle.boundary_parts.proofs.Bounds.{parts-inside}
-use Rattle.totals.specs.Card.{totalActed, totalBy, countIn}
-use Rattle.totals.specs.Claim.{IsRefusedBy, totalSteps, MisuseClaim, CountTold}
+use Rattle.totals.specs.Card.{totalBy, countIn}
+use Rattle.totals.specs.System.{totalFunctions}
+use Rattle.totals.specs.Claim.{IsRefusedBy, MisuseClaim, CountTold}
 use Rattle.totals.specs.Crossing.{recordSize, limit, overflowed, receivedOf, writtenOf, askedOf, readsOf, countAt, counted, overflowReply, refuses, pieceAsked, totalling, withTotals, overflowing, totalled, otherLength, onRecord, openTotals, totalOpen, totalStart, totalRead, totalWrote, totalFault}
 use Rattle.totals.proofs.Beside.{counted-bytes, counted-at, out-kept, inside-counted}
 use Rattle.totals.proofs.Behind.{in-front, whole-counts}
@@ -91,12 +93,39 @@ module _ (rec : List ℕ) (e : Event) where
   adding-none : (k : ℕ) (c : Crossed) → Comes rec e c (onRecord rec (e .rx) (e .msg) (e .out) (withTotals rec (receivedOf rec) (writtenOf rec) k c))
   adding-none k c = on-length c (withTotals rec (receivedOf rec) (writtenOf rec) k c) (λ i. settling i (receivedOf rec) (writtenOf rec) k)
 
-  comes : (x : Act) → Comes rec e (inner rec e x) (totalActed rec e x)
+  comes : (x : Act) → Comes rec e (inner rec e x) (actedBy totalFunctions rec e x)
   unfolding totalStart totalRead totalWrote totalFault
-  comes (start n a b) = adding-none 0 (inner rec e (start n a b))
+  comes (start n a b i) = adding-none 0 (inner rec e (start n a b i))
   comes (report (hasRead k)) = adding (receivedOf rec + k) (writtenOf rec) (readsOf rec + 1) (inner rec e (report (hasRead k)))
   comes (report wrote) = adding (receivedOf rec) (writtenOf rec + askedOf rec) (readsOf rec) (inner rec e (report wrote))
   comes (report (fault kind code)) = adding-none (readsOf rec) (inner rec e (report (fault kind code)))
+
+  -- a record keeps its length, and a refusal is told
+  module _ (c : Crossed) (s : length (take size rec) ≡ size → length (c .rec) ≡ size) (t : length rec ≡ recordSize → refuses (c .number) ≡ true → c .number % 256 ≡ 0) where
+    keeps-length : (y : Crossed) → Comes rec e c y → length (y .rec) ≡ length rec
+    keeps-length y elsewhere = refl
+    keeps-length y passing = refl
+    keeps-length y (settling i r n k) =
+        let l : length (c .rec) ≡ size = s (length-take-le size rec (omega (arith, i))) in
+        pick-cases (λ (z : List ℕ). length z ≡ length rec) (refuses (c .number))
+        (λ _. length-append (c .rec) (drop size rec) ∙ omega (arith, l, i, length-drop size rec))
+        (λ _. length-append (c .rec) _ ∙ omega (arith, l, i, length-words (r ∷ (limit + r + wordOf (c .rec) 2 - wordOf (c .rec) 3) ∷ n ∷ pieceAsked (heardOf c) (askedOf rec) ∷ k ∷ [])))
+
+    tells-refusal : (y : Crossed) → Comes rec e c y → refuses (y .number) ≡ true → y .number % 256 ≡ 0
+    unfolding replyNumber
+    tells-refusal y elsewhere z = refl
+    tells-refusal y passing z = refl
+    tells-refusal y (settling i r n k) z = t i z
+
+pub total-length : (rec : List ℕ) (e : Event) → length (totalBy rec e .rec) ≡ length rec
+total-length rec e =
+    keeps-length rec e (inner rec e (e .act)) (λ s. acted-sized (take size rec) s e (e .act) .size-same) (λ i. acted-sized (take size rec) (length-take-le size rec (omega (arith, i))) e (e .act) .tells)
+    (totalBy rec e) (comes rec e (e .act))
+
+pub total-tells : (rec : List ℕ) (e : Event) → refuses (totalBy rec e .number) ≡ true → totalBy rec e .number % 256 ≡ 0
+total-tells rec e =
+    tells-refusal rec e (inner rec e (e .act)) (λ s. acted-sized (take size rec) s e (e .act) .size-same) (λ i. acted-sized (take size rec) (length-take-le size rec (omega (arith, i))) e (e .act) .tells)
+    (totalBy rec e) (comes rec e (e .act))
 
 -- ---- a refusal leaves it
 
@@ -111,7 +140,8 @@ module _ (rec : List ℕ) (bytes : Bytes rec) (e : Event) (w : Wide e) where
       rw (refuses-low (c .number) m j a b) (ap (λ (l : List ℕ). l ++ drop size rec) u ∙ take-append-drop size rec, v, z)
   refused-same c y (settling i r n k′) (inr f) (inl (m, h, j)) =
       let b = listed-below 12 m callers (omega arith) h in absurd (omega (arith, b .1, f m j (b .0) .0))
-  refused-same c y (settling i r n k′) (inr f) (inr j) = absurd (omega (arith, f overflowed j (omega arith) .1))
+  refused-same c y (settling i r n k′) (inr f) (inr (inl j)) = absurd (omega (arith, f overflowed j (omega arith) .1))
+  refused-same c y (settling i r n k′) (inr f) (inr (inr j)) = absurd (omega (arith, f closedHours j (omega arith) .1))
 
   unchanged : IsRefusedBy (totalBy rec e) → Unchanged rec e (totalBy rec e)
   unchanged = refused-same (inner rec e (e .act)) (totalBy rec e) (comes rec e (e .act)) (event-kept x (bytes-take size rec bytes) e w (e .act) (w .act))
@@ -161,7 +191,7 @@ module _ (rec : List ℕ) (e : Event) (room : outSize ≤ length (e .out)) where
       → countIn y ≡ readsOf (y .rec)
   unfolding replyNumber
   told-count c y elsewhere s o z f = absurd (f (inl (3, refl, refl)))
-  told-count c y passing s o z f = absurd (f (inr refl))
+  told-count c y passing s o z f = absurd (f (inr (inl refl)))
   told-count c y (settling i r n k) s o z f = go (refuses (c .number)) refl
     where
       a : ℕ
@@ -183,9 +213,10 @@ module _ (rec : List ℕ) (e : Event) (room : outSize ≤ length (e .out)) where
   none-told bytes w c y (settling i r n k) (inl (m, a, b, j, u)) o h =
       rw (refuses-low (c .number) m j a b) (counted-at (c .number) 0 (c .out) (omega arith) (omega arith) (omega arith))
   none-told bytes w c y (settling i r n k) (inr f) o (inl (m, h, j)) = let b = listed-below 12 m callers (omega arith) h in absurd (omega (arith, b .1, f m j (b .0) .0))
-  none-told bytes w c y (settling i r n k) (inr f) o (inr j) = absurd (omega (arith, f overflowed j (omega arith) .1))
+  none-told bytes w c y (settling i r n k) (inr f) o (inr (inl j)) = absurd (omega (arith, f overflowed j (omega arith) .1))
+  none-told bytes w c y (settling i r n k) (inr f) o (inr (inr j)) = absurd (omega (arith, f closedHours j (omega arith) .1))
 
-pub count-told : CountTold
+pub count-told : CountTold totalFunctions
 count-told =
     record {
       answered = λ rec e room z f.
@@ -211,13 +242,13 @@ module _ (rec rx msg lent out : List ℕ) where
       on-card (totalled rec rx msg out r n k c)
       (pick-cases (InBounds lent) (not (refuses (c .number)) && (leb limit r || (leb limit n || leb limit k))) (λ _. tt) (λ _. counted-in r n k c f))
 
-pub parts-inside-totals : PartsInside totalSteps
+pub parts-inside-totals : PartsInside totalFunctions
 unfolding totalStart totalRead totalWrote totalFault
 parts-inside-totals =
     record {
-      start = λ rec rx msg lent call a b out x y z w p q. on-card rec rx msg lent out
+      start = λ rec rx msg lent call a b t out x y z w p q s. on-card rec rx msg lent out
           (withTotals rec (receivedOf rec) (writtenOf rec) 0 (crossStart (take size rec) rx msg lent call a b out))
-          (counted-in rec rx msg lent out (receivedOf rec) (writtenOf rec) 0 (crossStart (take size rec) rx msg lent call a b out) (parts-inside .start (take size rec) rx msg lent call a b out (bytes-take size rec x) y z w p q));
+          (counted-in rec rx msg lent out (receivedOf rec) (writtenOf rec) 0 (crossStart (take size rec) rx msg lent call a b out) (parts-inside .start (take size rec) rx msg lent call a b t out (bytes-take size rec x) y z w p q s));
       read = λ rec rx msg lent count out x y z w. total-in rec rx msg lent out (receivedOf rec + count) (writtenOf rec) (readsOf rec + 1)
           (crossRead (take size rec) rx msg lent count out) (parts-inside .read (take size rec) rx msg lent count out (bytes-take size rec x) y z w);
       wrote = λ rec rx msg lent out x y z w. total-in rec rx msg lent out (receivedOf rec) (writtenOf rec + askedOf rec) (readsOf rec)
@@ -229,5 +260,5 @@ parts-inside-totals =
 
 -- ---- the claim
 
-pub misuse : MisuseClaim
+pub misuse : MisuseClaim totalFunctions totalOpen (openRefused recordSize)
 misuse = record { calls = call-numbers; opens = open-answers; unchanged = unchanged }

@@ -39,7 +39,7 @@ use Rattle.totals.proofs.Held.{Leaves, numbered-in, read-in, wrote-in, 
 
 -- the count of a read
 abbrev pub gain : Act → ℕ
-gain (start n a b) = 0
+gain (start n a b i) = 0
 gain (report (hasRead k)) = k
 gain (report wrote) = 0
 gain (report (fault kind code)) = 0
@@ -66,11 +66,11 @@ held-back s out o n w w′ h l =
 
 module _ (s : Session) (lent rx msg : List ℕ) where
   abbrev came : Act → Out
-  came (start n a b) = callNumbered n a b (st s rx msg) lent (requestNumbered n a b) (unknownCall (st s rx msg))
+  came (start n a b i) = callNumbered n a b (st s rx msg) lent (requestNumbered n a b) (unknownCall (st s rx msg))
   came (report r) = reported s lent rx msg r
 
   came-in : (x : Act) → Leaves (heldCount (s .buf) + gain x) (came x)
-  came-in (start n a b) = numbered-in (heldCount (s .buf) + 0) n a b (st s rx msg) lent (omega arith)
+  came-in (start n a b i) = numbered-in (heldCount (s .buf) + 0) n a b (st s rx msg) lent (omega arith)
   came-in (report (hasRead k)) = read-in (heldCount (s .buf) + k) k (st s rx msg) (omega arith) (length lent)
   came-in (report wrote) = wrote-in (heldCount (s .buf) + 0) (st s rx msg) lent (omega arith)
   came-in (report (fault kind code)) = fault-in (heldCount (s .buf) + 0) (st s rx msg) (length lent) (faultNumbered kind code) (omega arith)

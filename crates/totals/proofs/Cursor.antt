@@ -1,8 +1,8 @@
 -- Where every list of calls is the plain reader's, the cursor of the session in its record lies in the receive buffer: else a `nextChunk` would be answered 3,
--- which the plain reader never does.
+-- which the plain reader never does, whatever the hours are.
 -- Assumes nothing.
 use Prim.Native.Nat.{ℕ, suc, _+_, _≤_}
-use mathlib.Core.Bool.{Bool, true, false, _&&_}
+use mathlib.Core.Bool.{Bool, true, false, true≢false, _&&_, not}
 use mathlib.Core.List.{List, [], _∷_}
 use mathlib.Core.Option.{Option, none, some, Option·none-ne-some}
 use mathlib.Core.Path.{_≡_, refl, sym, ap, _∙_, subst}
@@ -11,17 +11,20 @@ use lib.Dec.{eqb, ltb}
 use lib.ListN.{length}
 use Rattle.protocol.specs.Answers.{Answer, End, number, refused}
 use Rattle.protocol.specs.Bytes.{pick}
-use Rattle.protocol.specs.Calls.{nextChunk, messages}
+use Rattle.protocol.specs.Calls.{nextChunk, messages, Made, anytime}
+use Rattle.protocol.specs.Hours.{Hours, lets}
 use Rattle.protocol.specs.Reader.{Config, accepted, plainCall}
-use Rattle.protocol.specs.Refusal.{orElse, refuse, refusal}
+use Rattle.protocol.specs.Refusal.{orElse, refuse, refusal, closedHours, turned}
 use Rattle.protocol.proofs.Bodies.{pick-cases}
 use Rattle.record.specs.Fields.{sessionOf, known}
 use Rattle.record.specs.Record.{wordOf, size, loaded}
 use Rattle.session.specs.Calls.{misfit, callRefusal, refusedOr, chunkCall}
-use Rattle.session.specs.Faithful.{Faithful}
-use Rattle.session.specs.Host.{told, Step, Host, World, newCall, lentOf, Run, over-with, run, enough, runCall, onRun, logOf}
+use Rattle.session.specs.Faithful.{replyOf, AsMade, Faithful}
+use Rattle.session.specs.Gate.{refuses, Timed, timed, keeping, gate}
+use Rattle.session.specs.Host.{told, Step, Host, Broken, Stop, World, newCall, lentOf, Run, over-with, run, enough, runCall, Entry, outcomeOf, onRun, logOf}
 use Rattle.session.specs.State.{St, st, Out}
 use Rattle.session.specs.declared.Session.{Session}
+use Rattle.session.proofs.Logs.{turned-push}
 use Rattle.session.proofs.Misfit.{misfit-fits}
 use Rattle.session_layer.specs.Layer.{wasRefused}
 use Rattle.session_layer.proofs.Refused.{refused-by}
@@ -76,18 +79,35 @@ three-not g v e z = go (g .setting .ended) (refused-by g e accepted nextChunk v 
     go true f = absurd (omega (arith, ap which f))
     go false f = absurd (Option·none-ne-some _ f)
 
-module _ (h : Host) (g : Config) (v : List ℕ) (w : World) (x rx msg : List ℕ) (always : Always recorded h g v w x rx msg) where
+-- no hours turn a `nextChunk` away
+module _ (h : Host) (t : Option Hours) (g : Config) (v : List ℕ) (w : World) (k : Timed (List ℕ)) (rx msg : List ℕ) (always : Always (gate recorded) h t g v w k rx msg) where
+  abbrev m : Made
+  m = anytime nextChunk
+
   abbrev s : Step (List ℕ)
-  s = recorded .start x rx msg nextChunk (h .spare w)
+  s = recorded .start (k .x) rx msg m (h .spare w)
+
+  goes-in : gate recorded .start k rx msg m (h .spare w) ≡ keeping (k .hours) s
+  goes-in = go (lets (k .hours) 0)
+    where
+      go : (b : Bool) → keeping (k .hours) (pick ((not b && false) && not (refuses (s .show))) (record { x = k .x; rx = rx; msg = msg; show = told (refused closedHours) }) s) ≡ keeping (k .hours) s
+      go true = refl
+      go false = refl
+
+  answered : (b : Bool) (x : Entry) → turned t (g .setting) m ≡ b → AsMade b g (h .end) nextChunk v x → x .stopped ≡ none → x .broken ≡ [] → x .answer ≡ plainCall g (h .end) accepted nextChunk v .answer
+  answered true x e f y z = absurd (true≢false (sym (turned-push t (g .setting) m e)))
+  answered false x e f y z =
+      f .answer ∙ ap (λ (bs : List Broken). replyOf (x .stopped) g (h .end) (outcomeOf bs) nextChunk v .answer) z ∙ ap (λ (st : Option Stop). replyOf st g (h .end) accepted nextChunk v .answer) y
 
   not-three : s .show ≡ told (refused 3) → ⊥
   unfolding logOf run messages
   not-three z =
       let n : ℕ = length (w .left) + 4 in
       let e : enough nextChunk w ≡ suc n = omega arith in
-      let r : runCall recorded h nextChunk w x rx msg ≡ over-with (s .x) (s .rx) (s .msg) (refused 3) (newCall w) = rw (e, z) in
-      three-not g v (h .end)
-      (subst (λ (o : Run (List ℕ)). Faithful g (h .end) (nextChunk ∷ []) v (onRun recorded (recorded .holds x rx) (recorded .tail x) msg (λ w′ x′ rx′ msg′. logOf recorded h [] w′ x′ rx′ msg′) o)) r (always (nextChunk ∷ []) (tt, tt)) .0 .answer)
+      let r : runCall (gate recorded) h m w k rx msg ≡ over-with (timed (k .hours) (s .x)) (s .rx) (s .msg) (refused 3) (newCall w) = rw (goes-in, e, z) in
+      let f = subst (λ (o : Run (Timed (List ℕ))). Faithful t g (h .end) (m ∷ []) v (onRun (gate recorded) (gate recorded .holds k rx) (gate recorded .tail k) msg (λ w′ x′ rx′ msg′. logOf (gate recorded) h [] w′ x′ rx′ msg′) o)) r
+      (always (m ∷ []) ((tt, omega arith), tt)) .0 in
+      three-not g v (h .end) (answered (turned t (g .setting) m) _ refl f refl refl)
 
-  pub always-in : CursorIn x rx
-  always-in = start-fits x rx msg (lentOf (h .spare w) nextChunk) (h .spare w .out) (firstNumber (h .spare w) nextChunk) (flagNumber (h .spare w) nextChunk) not-three
+  pub always-in : CursorIn (k .x) rx
+  always-in = start-fits (k .x) rx msg (lentOf (h .spare w) nextChunk) (h .spare w .out) (firstNumber (h .spare w) nextChunk) (flagNumber (h .spare w) nextChunk) not-three

@@ -6,6 +6,7 @@ use mathlib.Core.Path.{_≡_, refl, ap, subst, _∙_}
 use native.Mathlib.Omega.{arith}
 use lib.ListN.{length, replicate}
 use Rattle.protocol.specs.Answers.{Answer}
+use Rattle.protocol.specs.Digits.{digits}
 use Rattle.protocol.specs.Bytes.{pick, numberAt, over, put}
 use Rattle.protocol.specs.Calls.{messages}
 use Rattle.protocol.specs.Fact.{Hold}
@@ -80,7 +81,7 @@ unfolding totalOpen totalStart totalRead totalWrote totalFault numberAt over put
 replies-hold = refl
 
 pub plains-hold : Hold F.plains
-unfolding plainCards plain written writes messages messageOf bytesOfRequest statAt dentAt numberAt drain refusal requestRefusal pathRefusal
+unfolding digits plainCards plain written writes messages messageOf bytesOfRequest statAt dentAt numberAt drain refusal requestRefusal pathRefusal
 plains-hold = refl
 
 pub showings-hold : Hold F.showings
@@ -90,13 +91,14 @@ showings-hold = refl
 -- ---- the words of the claims
 
 pub bounded : F.Bounded
-bounded = record { most-fits = (omega arith, omega arith); over-in = λ h. absurd (omega (arith, h .0)); over-out = λ h. absurd (omega (arith, h .1)); means = λ g qs u p q. (p, q) }
+bounded = record { most-fits = (omega arith, omega arith); over-in = λ h. absurd (omega (arith, h .0)); over-out = λ h. absurd (omega (arith, h .1)); means = λ h g ms u p q. (p, q) }
 
 pub ended : F.Ended
 ended =
     record {
       refused-leaves = λ m r n k e rec a h. h .reads ∙ ap (λ (b : Answer). pick (wasRefused b) k (readsIn (e .asks))) a;
       missing-leaves = λ m r n k e rec a h. h .reads ∙ ap (λ (b : Answer). pick (wasRefused b) k (readsIn (e .asks))) a;
+      closed-leaves = λ m r n k e rec a h. h .reads ∙ ap (λ (b : Answer). pick (wasRefused b) k (readsIn (e .asks))) a;
       others-count = λ m r n k e rec a h. h .reads ∙ ap (λ (b : Answer). pick (wasRefused b) k (readsIn (e .asks))) a;
       all-consumed = λ r n k e rec u h. omega (arith, h .consumed, ap length u);
       adds-up = λ m r n k e f a b h. (h .1 .0 .received, h .1 .0 .written);
@@ -125,7 +127,7 @@ pub momentary : F.Momentary
 momentary =
     record {
       first = λ s t rec h. h .reads;
-      answered = λ s t rec e z l n h. told (refusedBy s t e) z (adds s t (e .act) .reads) rec e (totalBy rec e) l n (h .1 .0);
+      answered = λ s t rec e z l n h. told (refusedBy none s t e) z (adds s t (e .act) .reads) rec e (totalBy rec e) l n (h .1 .0);
       taken = λ s t rec e f z h. h .1 .1 .0 .reads ∙ ap (λ (y : Option Answer). sumsAfter y t (adds s t (e .act)) .reads) z;
       turned-away = λ s t rec e f z h. h .1 .1 .0 .reads ∙ ap (λ (y : Option Answer). sumsAfter y t (adds s t (e .act)) .reads) z;
       last = λ s t rec e z h. h .1 .1 .reads ∙ ap (λ (y : Option Answer). sumsAfter y t (adds s t (e .act)) .reads) z;

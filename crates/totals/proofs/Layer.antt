@@ -1,10 +1,10 @@
--- The exported functions are a layer around the session: each step is the step of the session inside, as long as fewer bytes than the limit come
--- and are written; and the reads stand in a reply. So what is claimed against every host, and demand 3, hold of them.
+-- The functions on a record with totals follow the session: each step is the step of the session inside, as long as fewer bytes than the limit come
+-- and are written; and the reads stand in a reply.
 -- Assumes nothing.
 use Prim.Native.Nat.{ℕ, _+_, _-_, _%_, _≤_, _<_}
 use mathlib.Core.Bool.{Bool, true, false, _&&_, _||_, not}
 use mathlib.Core.List.{List, [], _∷_, _++_}
-use mathlib.Core.Path.{_≡_, refl, sym, ap, _∙_}
+use mathlib.Core.Path.{_≡_, refl, sym, ap, _∙_, subst}
 use native.Mathlib.Omega.{arith}
 use borrow.Author.Tests.{eq-eqb, eqb-true, lt-leb}
 use lib.Dec.{eqb, leb}
@@ -12,28 +12,27 @@ use lib.ListN.{length, take, drop, length-drop}
 use lib.Seq.{length-take-le}
 use Rattle.protocol.specs.Answers.{done}
 use Rattle.protocol.specs.Bytes.{pick}
+use Rattle.protocol.specs.Calls.{Made}
 use Rattle.protocol.proofs.Bodies.{pick-cases}
 use Rattle.id_table.specs.Settings.{settingsOf}
 use Rattle.record.specs.Record.{words, wordOf, size}
-use Rattle.session.specs.Demand3.{Opening, unbounded, below, Claim}
-use Rattle.session.specs.EveryHost.{EveryHost}
-use Rattle.session.specs.Host.{Show, told, read, writeRx, writeLent, writeBytes, close, lentOf}
-use Rattle.session.proofs.Demand3.{claimed}
-use Rattle.session_layer.specs.Layer.{asked, Writes, Asks, tellsRefusal, Account, starting, reading, writing, under, Alike, Layer, Around, atOpening}
-use Rattle.session_layer.proofs.Claims.{narrower, carried}
-use Rattle.boundary.specs.Boundary.{callNumber, firstNumber, flagNumber, endKind, endCode, stepOf, recorded, boundary}
-use Rattle.boundary.specs.Crossing.{Crossed, OpenCrossed, crossOpen}
+use Rattle.session.specs.Demand3.{Opening}
+use Rattle.session.specs.Gate as G
+use Rattle.session.specs.Host.{Show, told, read, writeRx, writeLent, writeBytes, close, Spare, lentOf}
+use Rattle.session_layer.specs.Layer.{asked, Writes, Asks, tellsRefusal, Account, starting, reading, writing, atOpening}
+use Rattle.boundary.specs.Boundary.{callNumber, firstNumber, flagNumber, endKind, endCode, stepOf, recorded}
+use Rattle.boundary.specs.Crossing.{Crossed, OpenCrossed, crossOpen, crossStart, crossRead, crossWrote, crossFault}
 use Rattle.boundary.specs.Heard.{heard}
 use Rattle.boundary.specs.Told.{outSize}
-use Rattle.boundary.proofs.Demand3.{every-host}
 use Rattle.boundary_misuse.specs.Misuse.{Act, start, report, hasRead, wrote, fault, Event, acted}
-use Rattle.totals.specs.Card.{countIn}
 use Rattle.totals.specs.Crossing.{recordSize, receivedOf, consumedOf, writtenOf, askedOf, readsOf, limit, refuses, pieceAsked, totalling, withTotals, overflowing, totalled, onRecord, openTotals, totalOpen, totalStart, totalRead, totalWrote, totalFault}
-use Rattle.totals.specs.System.{stepBy, engineBy, counting, totals}
+use Rattle.totals.specs.System.{startBy, totalFunctions, totals}
 use Rattle.totals.proofs.Behind.{heldOf, totalling-is, whole-size, whole-inner, whole-own, whole-received, whole-consumed, whole-written, whole-asked, whole-reads, in-front}
 use Rattle.totals.proofs.Beside.{heard-counted, counted-at, out-kept}
-use Rattle.totals.proofs.Refused.{heard-refused}
+use Rattle.totals.proofs.Crosses.{Tells, Crosses, Follows}
+use Rattle.totals.proofs.Refused.{heard-refuses, heard-refused, unrefused-show}
 use Rattle.totals.proofs.Sizes.{Sized, acted-sized, open-size}
+use Rattle.totals.proofs.Starts.{start-open}
 
 -- ---- the relation
 
@@ -80,17 +79,13 @@ pub record Keeps (l : Account) (sh : Show) (y x : List ℕ) : Type 0 where
   pub reads : l .reads ≤ l .received
   pub recalls : Writes sh → a ≡ asked sh
 
--- an answer carries the reads that the account has, a refusal none
-abbrev pub Tells : Account → Show → Crossed → Type 0
-Tells l sh c = (Asks sh → ⊥) → countIn c ≡ pick (tellsRefusal sh) 0 (l .reads)
-
 -- ---- a step
 
 module _ (l : Account) (sh : Show) (y x : List ℕ) (k : Keeps l sh y x) where
   abbrev d : ℕ
   d = limit + l .received + wordOf x 2 - wordOf x 3
 
-  here-size : length y ≡ recordSize
+  pub here-size : length y ≡ recordSize
   here-size = ap length (k .is) ∙ whole-size x (k .sized) (l .received) d (l .written) (k .a) (l .reads)
 
   here-inner : take size y ≡ x
@@ -112,7 +107,7 @@ module _ (l : Account) (sh : Show) (y x : List ℕ) (k : Keeps l sh y x) where
   pub here-reads : readsOf y ≡ l .reads
   here-reads = ap readsOf (k .is) ∙ whole-reads x (k .sized) (l .received) d (l .written) (k .a) (l .reads) (omega (arith, k .reads, k .all, k .few))
 
-  here-word : (i : ℕ) → i < 32 → wordOf y i ≡ wordOf x i
+  pub here-word : (i : ℕ) → i < 32 → wordOf y i ≡ wordOf x i
   here-word i h = ap (λ (z : List ℕ). wordOf z i) (k .is) ∙ in-front x (words (l .received ∷ d ∷ l .written ∷ k .a ∷ l .reads ∷ [])) (k .sized) i h
 
   -- what is held, and no more than was received, is not yet consumed
@@ -121,13 +116,11 @@ module _ (l : Account) (sh : Show) (y x : List ℕ) (k : Keeps l sh y x) where
       ap consumedOf (k .is ∙ totalling-is x (l .received) (l .written) (k .a) (l .reads) h i)
       ∙ whole-consumed x (k .sized) (l .received) (l .received - heldOf x) (l .written) (k .a) (l .reads) (omega (arith, k .all, k .few))
 
-  -- c is the step inside, in a slice that holds a reply
-  module _ (c : Crossed) (e : Sized x c) (room : outSize ≤ length (c .out)) (rx msg out : List ℕ) where
+  -- c is the step inside, in a slice that holds a reply; it is refused where its number says so
+  module _ (c : Crossed) (e : Sized x c) (room : outSize ≤ length (c .out)) (rx msg out : List ℕ)
+      (says-refused : tellsRefusal (heard (c .number) (c .out) (c .rx) (c .msg)) ≡ refuses (c .number)) where
     abbrev says : Show
     says = heard (c .number) (c .out) (c .rx) (c .msg)
-
-    says-refused : tellsRefusal says ≡ refuses (c .number)
-    says-refused = heard-refused (c .number) (c .out) (c .rx) (c .msg) (e .tells)
 
     -- r′, n′ and i′ are to stand behind it, and so the account l′ has them, unless it is refused
     module _ (l′ : Account) (r′ n′ i′ : ℕ) (all : l′ .received + length (l′ .left) ≡ l′ .coming) (few : l′ .coming < limit) (below : l′ .written < limit)
@@ -155,29 +148,31 @@ module _ (l : Account) (sh : Show) (y x : List ℕ) (k : Keeps l sh y x) where
           counted-at (c .number) k (c .out) fits (tells-number (c .number) (c .out) (c .rx) (c .msg) f) room ∙ same
           ∙ ap (λ (b : Bool). pick b 0 (l′ .reads)) (sym says-refused)
 
-      -- an engine keeps this of it
-      module _ {Y : Type 0} (keeping : Crossed → Y) (R : Account → Show → Y → List ℕ → Type 0)
-          (makes : (l : Account) (sh : Show) (c : Crossed) (x : List ℕ) → Keeps l sh (c .rec) x → Tells l sh c → R l sh (keeping c) x) where
-        settled-alike : Keeps l′ says (kept (refuses (c .number))) (c .rec) → Tells l′ says (withTotals y r′ n′ i′ c)
-            → Alike R l′ (stepBy keeping (onRecord y rx msg out (withTotals y r′ n′ i′ c))) (stepOf c)
-        settled-alike keeps tells =
-            let C : Crossed = withTotals y r′ n′ i′ c in
-            let on : onRecord y rx msg out C ≡ C = rw (eq-eqb (length y) recordSize here-size) in
-            let same : stepBy keeping C ≡ under (keeping C) (stepOf c) =
-            ap (λ (sh : Show). record { x = keeping C; rx = c .rx; msg = c .msg; show = sh }) (heard-counted (c .number) (pick (refuses (c .number)) 0 i′) (c .out) (c .rx) (c .msg)) in
-            (keeping C, (ap (stepBy keeping) on ∙ same, makes l′ says C (c .rec) keeps tells))
+      settled-crosses : Keeps l′ says (kept (refuses (c .number))) (c .rec) → Tells l′ says (withTotals y r′ n′ i′ c)
+          → Crosses Keeps l′ (onRecord y rx msg out (withTotals y r′ n′ i′ c)) (stepOf c)
+      settled-crosses keeps tells =
+          let C : Crossed = withTotals y r′ n′ i′ c in
+          subst (λ (d : Crossed). Crosses Keeps l′ d (stepOf c)) (sym (on-record C))
+          (record {
+            step = ap (λ (sh : Show). record { x = C .rec; rx = c .rx; msg = c .msg; show = sh }) (heard-counted (c .number) (pick (refuses (c .number)) 0 i′) (c .out) (c .rx) (c .msg));
+            keeps = keeps;
+            tells = tells;
+          })
+        where
+          on-record : (d : Crossed) → onRecord y rx msg out d ≡ d
+          on-record d = rw (eq-eqb (length y) recordSize here-size)
 
-        -- a report that the session does not refuse
-        reported-alike : tellsRefusal says ≡ false → r′ ≡ l′ .received → n′ ≡ l′ .written → i′ ≡ l′ .reads
-            → Alike R l′ (stepBy keeping (onRecord y rx msg out (withTotals y r′ n′ i′ c))) (stepOf c)
-        reported-alike z p q r =
-            settled-alike (put-behind (sym says-refused ∙ z) p q r) (tells-count (omega (arith, r, reads, all, few)) (ap (pick (refuses (c .number)) 0) r))
+      -- a report that the session does not refuse
+      reported-crosses : tellsRefusal says ≡ false → r′ ≡ l′ .received → n′ ≡ l′ .written → i′ ≡ l′ .reads
+          → Crosses Keeps l′ (onRecord y rx msg out (withTotals y r′ n′ i′ c)) (stepOf c)
+      reported-crosses z p q r =
+          settled-crosses (put-behind (sym says-refused ∙ z) p q r) (tells-count (omega (arith, r, reads, all, few)) (ap (pick (refuses (c .number)) 0) r))
 
-        totalled-alike : tellsRefusal says ≡ false → r′ ≡ l′ .received → n′ ≡ l′ .written → i′ ≡ l′ .reads
-            → Alike R l′ (stepBy keeping (onRecord y rx msg out (totalled y rx msg out r′ n′ i′ c))) (stepOf c)
-        totalled-alike z p q r =
-            rw (fitting (not (refuses (c .number))) r′ n′ i′ (overflowing y rx msg out) (withTotals y r′ n′ i′ c) (omega (arith, p, all, few)) (omega (arith, q)) (omega (arith, r, reads, all, few)))
-            (reported-alike z p q r)
+      totalled-crosses : tellsRefusal says ≡ false → r′ ≡ l′ .received → n′ ≡ l′ .written → i′ ≡ l′ .reads
+          → Crosses Keeps l′ (onRecord y rx msg out (totalled y rx msg out r′ n′ i′ c)) (stepOf c)
+      totalled-crosses z p q r =
+          rw (fitting (not (refuses (c .number))) r′ n′ i′ (overflowing y rx msg out) (withTotals y r′ n′ i′ c) (omega (arith, p, all, few)) (omega (arith, q)) (omega (arith, r, reads, all, few)))
+          (reported-crosses z p q r)
 
     -- a call: refused, all stays as it was; else it begins with no reads
     start-keeps : (b : Bool) → refuses (c .number) ≡ b
@@ -211,9 +206,8 @@ module _ (l : Account) (sh : Show) (y x : List ℕ) (k : Keeps l sh y x) where
     start-reads true f = refl
     start-reads false f = rw (says-refused ∙ f) refl
 
--- ---- the layer
+-- ---- steps of the session inside
 
--- a step of the session inside
 abbrev made : (rx msg lent out : List ℕ) → Act → Event
 made rx msg lent out a = record { act = a; lent = lent; rx = rx; msg = msg; out = out }
 
@@ -224,53 +218,68 @@ inside x rx msg lent out l a = acted-sized x l (made rx msg lent out a) a
 roomy : (x rx msg lent out : List ℕ) → outSize ≤ length out → (a : Act) → outSize ≤ length (acted x (made rx msg lent out a) a .out)
 roomy x rx msg lent out h a = omega (arith, out-kept x (made rx msg lent out a) a)
 
--- an engine that keeps any part of a crossing: its relation has the record's in it, and follows from that and the reads in the reply
-module _ {Y : Type 0} (recordIn : Y → List ℕ) (keeping : Crossed → Y) (R : Account → Show → Y → List ℕ → Type 0)
-    (finds : (l : Account) (sh : Show) (y : Y) (x : List ℕ) → R l sh y x → Keeps l sh (recordIn y) x)
-    (makes : (l : Account) (sh : Show) (c : Crossed) (x : List ℕ) → Keeps l sh (c .rec) x → Tells l sh c → R l sh (keeping c) x) where
-  pub engine-layer : Layer limit (engineBy recordIn keeping) recorded (totals .lends) R
-  unfolding totalStart totalRead totalWrote totalFault
-  engine-layer =
-      record {
-        holds = λ l sh y x f rx. let k = finds l sh y x f in rw (here-word l sh (recordIn y) x k 2 (omega arith), here-word l sh (recordIn y) x k 3 (omega arith));
-        tail = λ l sh y x f. here-word l sh (recordIn y) x (finds l sh y x f) 3 (omega arith);
-        start = λ l a y x f rx msg q z (room, _).
-            let k = finds l (told a) y x f in
-            let rec : List ℕ = recordIn y in
-            let i : Act = start (callNumber q) (firstNumber z q) (flagNumber z q) in
-            let c : Crossed = acted x (made rx msg (lentOf z q) (z .out) i) i in
-            let e = inside x rx msg (lentOf z q) (z .out) (k .sized) i in
-            let h = roomy x rx msg (lentOf z q) (z .out) room i in
-            let s = start-keeps l (told a) rec x k c e h rx msg (z .out) (refuses (c .number)) refl in
-            let n = start-reads l (told a) rec x k c e h rx msg (z .out) (refuses (c .number)) refl in
-            rw (here-inner l (told a) rec x k, here-received l (told a) rec x k, here-written l (told a) rec x k)
-            (settled-alike l (told a) rec x k c e h rx msg (z .out) (starting (stepOf c .show) l) (l .received) (l .written) 0 (s .all) (s .few) (s .below) (s .reads) keeping R makes s
-            (tells-count l (told a) rec x k c e h rx msg (z .out) (starting (stepOf c .show) l) (l .received) (l .written) 0 (s .all) (s .few) (s .below) (s .reads) (omega arith) n));
-        onRead = λ l at len y x f rx msg lent i z (room, _) p q b n.
-            let k = finds l (read at len) y x f in
-            let rec : List ℕ = recordIn y in
-            rw (here-inner l (read at len) rec x k, here-received l (read at len) rec x k, here-written l (read at len) rec x k, here-reads l (read at len) rec x k)
-            (totalled-alike l (read at len) rec x k _ (inside x rx msg lent (z .out) (k .sized) (report (hasRead i))) (roomy x rx msg lent (z .out) room (report (hasRead i))) rx msg (z .out)
-            (reading i l) (l .received + i) (l .written) (l .reads + 1) (omega (arith, k .all, length-drop i (l .left))) (k .few) (k .below) (omega (arith, k .reads)) keeping R makes n refl refl refl);
-        onWrote = λ l sh y x f w g rx msg lent z (room, _) n.
-            let k = finds l sh y x f in
-            let rec : List ℕ = recordIn y in
-            let a : k .a ≡ asked sh = k .recalls w in
-            let b : askedOf rec ≡ k .a = here-asked l sh rec x k (omega arith) in
-            rw (here-inner l sh rec x k, here-received l sh rec x k, here-written l sh rec x k, here-reads l sh rec x k)
-            (totalled-alike l sh rec x k _ (inside x rx msg lent (z .out) (k .sized) (report wrote)) (roomy x rx msg lent (z .out) room (report wrote)) rx msg (z .out)
-            (writing (asked sh) l) (l .received) (l .written + askedOf rec) (l .reads) (k .all) (k .few) g (k .reads) keeping R makes n refl (omega arith) refl);
-        onFault = λ l sh y x f w rx msg lent e z (room, _) n.
-            let k = finds l sh y x f in
-            let rec : List ℕ = recordIn y in
-            let i : Act = report (fault (endKind z e) (endCode z e)) in
-            rw (here-inner l sh rec x k, here-received l sh rec x k, here-written l sh rec x k, here-reads l sh rec x k)
-            (reported-alike l sh rec x k _ (inside x rx msg lent (z .out) (k .sized) i) (roomy x rx msg lent (z .out) room i) rx msg (z .out)
-            l (l .received) (l .written) (l .reads) (k .all) (k .few) (k .below) (k .reads) keeping R makes n refl refl refl);
-      }
+-- a start tells no 25
+start-refused : (x rx msg lent : List ℕ) (n a b : ℕ) (out : List ℕ) → length x ≡ size
+    → let c = crossStart x rx msg lent n a b out in tellsRefusal (heard (c .number) (c .out) (c .rx) (c .msg)) ≡ refuses (c .number)
+start-refused x rx msg lent n a b out l =
+    let c : Crossed = crossStart x rx msg lent n a b out in
+    heard-refused (c .number) (c .out) (c .rx) (c .msg) (inside x rx msg lent out l (start n a b 0) .tells) (start-open x rx msg lent n a b out)
 
-pub totals-layer : Layer limit counting recorded (totals .lends) Keeps
-totals-layer = engine-layer (λ rec. rec) (λ c. c .rec) Keeps (λ l sh y x k. k) (λ l sh c x k t. k)
+-- what is no refusal has no refusal's number
+report-refused : (c : Crossed) → (refuses (c .number) ≡ true → c .number % 256 ≡ 0) → tellsRefusal (heard (c .number) (c .out) (c .rx) (c .msg)) ≡ false
+    → tellsRefusal (heard (c .number) (c .out) (c .rx) (c .msg)) ≡ refuses (c .number)
+report-refused c tells z = z ∙ sym (sym (heard-refuses (c .number) (c .out) (c .rx) (c .msg) tells) ∙ unrefused-show (heard (c .number) (c .out) (c .rx) (c .msg)) z)
+
+pub totals-follow : Follows Keeps limit totalFunctions recorded (totals .lends)
+unfolding totalStart totalRead totalWrote totalFault
+totals-follow =
+    record {
+      holds = λ l sh rec x k rx. rw (here-word l sh rec x k 2 (omega arith), here-word l sh rec x k 3 (omega arith));
+      tail = λ l sh rec x k. here-word l sh rec x k 3 (omega arith);
+      start = λ l a rec x k rx msg m z (room, _).
+          let q = m .call in
+          let i : Act = start (callNumber q) (firstNumber z q) (flagNumber z q) (m .moment) in
+          let c : Crossed = acted x (made rx msg (lentOf z q) (z .out) i) i in
+          let e = inside x rx msg (lentOf z q) (z .out) (k .sized) i in
+          let h = roomy x rx msg (lentOf z q) (z .out) room i in
+          let f = start-refused x rx msg (lentOf z q) (callNumber q) (firstNumber z q) (flagNumber z q) (z .out) (k .sized) in
+          let s = start-keeps l (told a) rec x k c e h rx msg (z .out) f (refuses (c .number)) refl in
+          let n = start-reads l (told a) rec x k c e h rx msg (z .out) f (refuses (c .number)) refl in
+          rw (here-inner l (told a) rec x k, here-received l (told a) rec x k, here-written l (told a) rec x k)
+          (settled-crosses l (told a) rec x k c e h rx msg (z .out) f (starting (stepOf c .show) l) (l .received) (l .written) 0 (s .all) (s .few) (s .below) (s .reads) s
+          (tells-count l (told a) rec x k c e h rx msg (z .out) f (starting (stepOf c .show) l) (l .received) (l .written) 0 (s .all) (s .few) (s .below) (s .reads) (omega arith) n));
+      onRead = λ l at len rec x k rx msg lent i z (room, _) p q b n.
+          let e = inside x rx msg lent (z .out) (k .sized) (report (hasRead i)) in
+          let c : Crossed = crossRead x rx msg lent i (z .out) in
+          rw (here-inner l (read at len) rec x k, here-received l (read at len) rec x k, here-written l (read at len) rec x k, here-reads l (read at len) rec x k)
+          (totalled-crosses l (read at len) rec x k c e (roomy x rx msg lent (z .out) room (report (hasRead i))) rx msg (z .out) (report-refused c (e .tells) n)
+          (reading i l) (l .received + i) (l .written) (l .reads + 1) (omega (arith, k .all, length-drop i (l .left))) (k .few) (k .below) (omega (arith, k .reads)) n refl refl refl);
+      onWrote = λ l sh rec x k w g rx msg lent z (room, _) n.
+          let a : k .a ≡ asked sh = k .recalls w in
+          let b : askedOf rec ≡ k .a = here-asked l sh rec x k (omega arith) in
+          let e = inside x rx msg lent (z .out) (k .sized) (report wrote) in
+          let c : Crossed = crossWrote x rx msg lent (z .out) in
+          rw (here-inner l sh rec x k, here-received l sh rec x k, here-written l sh rec x k, here-reads l sh rec x k)
+          (totalled-crosses l sh rec x k c e (roomy x rx msg lent (z .out) room (report wrote)) rx msg (z .out) (report-refused c (e .tells) n)
+          (writing (asked sh) l) (l .received) (l .written + askedOf rec) (l .reads) (k .all) (k .few) g (k .reads) n refl (omega arith) refl);
+      onFault = λ l sh rec x k w rx msg lent e z (room, _) n.
+          let i : Act = report (fault (endKind z e) (endCode z e)) in
+          let s = inside x rx msg lent (z .out) (k .sized) i in
+          let c : Crossed = crossFault x rx msg lent (endKind z e) (endCode z e) (z .out) in
+          rw (here-inner l sh rec x k, here-received l sh rec x k, here-written l sh rec x k, here-reads l sh rec x k)
+          (reported-crosses l sh rec x k c s (roomy x rx msg lent (z .out) room i) rx msg (z .out) (report-refused c (s .tells) n)
+          l (l .received) (l .written) (l .reads) (k .all) (k .few) (k .below) (k .reads) n refl refl refl);
+    }
+
+-- the number of a start says whether the session inside refuses it
+pub start-number : (l : Account) (sh : Show) (rec x : List ℕ) → Keeps l sh rec x → (rx msg : List ℕ) (m : Made) (z : Spare)
+    → refuses (startBy totalFunctions rec rx msg m z .number) ≡ G.refuses (recorded .start x rx msg m z .show)
+unfolding totalStart
+start-number l sh rec x k rx msg m z =
+    let q = m .call in
+    let c : Crossed = crossStart x rx msg (lentOf z q) (callNumber q) (firstNumber z q) (flagNumber z q) (z .out) in
+    rw (here-inner l sh rec x k, eq-eqb (length rec) recordSize (here-size l sh rec x k))
+    (sym (heard-refuses (c .number) (c .out) (c .rx) (c .msg) (inside x rx msg (lentOf z q) (z .out) (k .sized) (start (callNumber q) (firstNumber z q) (flagNumber z q) (m .moment)) .tells)))
 
 -- ---- opening
 
@@ -288,7 +297,7 @@ module _ (y : List ℕ) (p : length y ≡ recordSize) (t : Opening) (rx msg : Li
   inner-size : length (take size y) ≡ size
   inner-size = length-take-le size y (omega (arith, p))
 
-  same-number : O .number ≡ o .number
+  pub same-number : O .number ≡ o .number
   same-number =
       ap (λ (z : OpenCrossed). z .number) opens-as
       ∙ pick-cases (λ (z : OpenCrossed). z .number ≡ o .number) (eqb (o .number) 0) (λ e. sym (eqb-true (o .number) 0 e)) (λ _. refl)
@@ -305,22 +314,3 @@ module _ (y : List ℕ) (p : length y ≡ recordSize) (t : Opening) (rx msg : Li
         reads = omega arith;
         recalls = λ w. absurd w;
       }
-
-pub totals-around : Around limit totals boundary Keeps
-totals-around =
-    record {
-      layer = totals-layer;
-      inner = λ y. take size y;
-      place = λ y p. length-take-le size y (omega (arith, p));
-      lends = λ z h. h;
-      number = λ y p t rx msg. same-number y p t rx msg;
-      opens = λ y p t rx msg incoming e b. opened-keeps y p t rx msg incoming e b;
-    }
-
--- any host, also one whose reads, writes and close come to faults
-pub every-host-totals : EveryHost (below limit) totals
-every-host-totals =
-    carried limit totals boundary Keeps totals-around (below limit) (λ m n h. h) (narrower (below limit) unbounded boundary (λ m n h. tt) every-host)
-
-pub demand-3-totals : Claim (below limit) totals
-demand-3-totals = claimed (below limit) totals every-host-totals

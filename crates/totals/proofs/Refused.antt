@@ -3,15 +3,18 @@
 use Prim.Native.Nat.{ℕ, zero, suc, _+_, _/_, _%_, _≤_, _<_}
 use mathlib.Core.Bool.{Bool, true, false, true≢false, _&&_, and-eq-true-iff}
 use mathlib.Core.List.{List, [], _∷_}
+use mathlib.Core.Logic.{_⊎_, inl, inr}
 use mathlib.Core.Path.{_≡_, refl, sym, ap, _∙_}
 use native.Mathlib.Omega.{arith}
 use borrow.Author.Tests.{eqb-true, eqb-false, lt-ltb, ltb-true}
 use lib.Dec.{eqb, leb, ltb}
 use lib.ListN.{length, take, drop}
-use Rattle.protocol.specs.Answers.{Answer, callers}
-use Rattle.protocol.specs.Bytes.{has}
+use Rattle.protocol.specs.Answers.{Answer, number, callers}
+use Rattle.protocol.specs.Bytes.{pick, has}
+use Rattle.protocol.specs.Refusal.{closedHours}
 use Rattle.protocol.proofs.Bodies.{pick-cases}
-use Rattle.session.specs.Host.{Show}
+use Rattle.session.specs.Gate as G
+use Rattle.session.specs.Host.{Show, told, read, writeRx, writeLent, writeBytes, close}
 use Rattle.session.specs.Shown.{partOf}
 use Rattle.session_layer.specs.Layer.{wasRefused, tellsRefusal}
 use Rattle.boundary.specs.Heard.{doneHeard, answerHeard, heard}
@@ -50,57 +53,100 @@ low-listed m = go (has m callers) (low m) refl refl
 
 -- ---- what is heard
 
-part-serves : (b : List ℕ) (i n : ℕ) (f : List ℕ → Answer) → ((p : List ℕ) → wasRefused (f p) ≡ false) → wasRefused (partOf b i n f) ≡ false
+part-number : (b : List ℕ) (i n k : ℕ) (f : List ℕ → Answer) → ((p : List ℕ) → number (f p) ≡ k) → (number (partOf b i n f) ≡ k) ⊎ (number (partOf b i n f) ≡ 0)
 unfolding partOf
-part-serves b i n f e = pick-cases (λ (a : Answer). wasRefused a ≡ false) (leb (i + n) (length b)) (λ _. e (take n (drop i b))) (λ _. refl)
+part-number b i n k f e = pick-cases (λ (a : Answer). (number a ≡ k) ⊎ (number a ≡ 0)) (leb (i + n) (length b)) (λ _. inl (e (take n (drop i b)))) (λ _. inr refl)
 
-done-serves : (kind : ℕ) (out rx : List ℕ) → wasRefused (doneHeard kind out rx) ≡ false
+done-number : (kind : ℕ) (out rx : List ℕ) → number (doneHeard kind out rx) ≡ 0
 unfolding doneHeard
-done-serves kind out rx =
+done-number kind out rx =
     pick-cases S (eqb kind 0) (λ _. refl)
     (λ _. pick-cases S (eqb kind 1) (λ _. refl)
     (λ _. pick-cases S (eqb kind 2) (λ _. refl)
     (λ _. pick-cases S (eqb kind 3) (λ _. refl)
-    (λ _. pick-cases S (eqb kind 4) (λ _. part-serves rx _ _ _ (λ p. refl))
-    (λ _. pick-cases S (eqb kind 5) (λ _. part-serves rx _ _ _ (λ p. refl))
-    (λ _. pick-cases S (eqb kind 6) (λ _. part-serves rx _ _ _ (λ p. refl)) (λ _. refl)))))))
+    (λ _. pick-cases S (eqb kind 4) (λ _. one (part-number rx _ _ 0 _ (λ p. refl)))
+    (λ _. pick-cases S (eqb kind 5) (λ _. one (part-number rx _ _ 0 _ (λ p. refl)))
+    (λ _. pick-cases S (eqb kind 6) (λ _. one (part-number rx _ _ 0 _ (λ p. refl))) (λ _. refl)))))))
   where
     S : Answer → Type 0
-    S a = wasRefused a ≡ false
+    S a = number a ≡ 0
 
-answer-refused : (m : ℕ) (out rx msg : List ℕ) → wasRefused (answerHeard m out rx msg) ≡ low m
+    one : {n : ℕ} → (n ≡ 0) ⊎ (n ≡ 0) → n ≡ 0
+    one (inl e) = e
+    one (inr e) = e
+
+-- the answer has the number that is told, or 0 where what is told is no refusal
+abbrev Numbered : ℕ → ℕ → Type 0
+Numbered m n = (n ≡ m) ⊎ ((n ≡ 0) × (low m ≡ false))
+
+answer-number : (m : ℕ) (out rx msg : List ℕ) → Numbered m (number (answerHeard m out rx msg))
 unfolding answerHeard
-answer-refused m out rx msg =
-    pick-cases S (eqb m 0) (λ e. done-serves _ out rx ∙ at 0 e)
-    (λ _. pick-cases S (eqb m 10) (λ e. at 10 e)
-    (λ _. pick-cases S (eqb m 12) (λ e. at 12 e)
-    (λ _. pick-cases S (eqb m 13) (λ e. at 13 e)
-    (λ _. pick-cases S (eqb m 14) (λ e. part-serves msg _ _ _ (λ p. refl) ∙ at 14 e)
-    (λ _. pick-cases S (eqb m 15) (λ e. at 15 e)
-    (λ _. pick-cases S (eqb m 16) (λ e. at 16 e)
-    (λ _. pick-cases S (eqb m 17) (λ e. at 17 e) (λ _. low-listed m))))))))
+answer-number m out rx msg =
+    pick-cases S (eqb m 0) (λ e. inl (done-number _ out rx ∙ is 0 e))
+    (λ _. pick-cases S (eqb m 10) (λ e. inl (is 10 e))
+    (λ _. pick-cases S (eqb m 12) (λ e. inl (is 12 e))
+    (λ _. pick-cases S (eqb m 13) (λ e. inl (is 13 e))
+    (λ _. pick-cases S (eqb m 14) (λ e. text e (part-number msg _ _ 14 _ (λ p. refl)))
+    (λ _. pick-cases S (eqb m 15) (λ e. inl (is 15 e))
+    (λ _. pick-cases S (eqb m 16) (λ e. inl (is 16 e))
+    (λ _. pick-cases S (eqb m 17) (λ e. inl (is 17 e)) (λ _. inl refl))))))))
   where
     S : Answer → Type 0
-    S a = wasRefused a ≡ low m
+    S a = Numbered m (number a)
 
-    at : (i : ℕ) → eqb m i ≡ true → low i ≡ low m
-    at i e = ap low (sym (eqb-true m i e))
+    is : (i : ℕ) → eqb m i ≡ true → i ≡ m
+    is i e = sym (eqb-true m i e)
+
+    text : {n : ℕ} → eqb m 14 ≡ true → (n ≡ 14) ⊎ (n ≡ 0) → Numbered m n
+    text e (inl f) = inl (f ∙ is 14 e)
+    text e (inr f) = inr (f, ap low (sym (is 14 e)))
+
+-- what holds of what is told, and of all that is asked, holds of what is heard
+heard-all : (P : Show → Type 0) (n : ℕ) (out rx msg : List ℕ) → P (told (answerHeard (n / 256) out rx msg))
+    → (eqb (n % 256) 0 ≡ false → ((at len : ℕ) → P (read at len)) × (((at len : ℕ) → P (writeRx at len)) × (((at len : ℕ) → P (writeLent at len)) × (((b : List ℕ) → P (writeBytes b)) × P close))))
+    → P (heard n out rx msg)
+unfolding heard
+heard-all P n out rx msg t f =
+    pick-cases P (eqb (n % 256) 0) (λ _. t)
+    (λ e. pick-cases P (eqb (n % 256) 1) (λ _. f e .0 _ _)
+    (λ _. pick-cases P (eqb (n % 256) 2) (λ _. f e .1 .0 _ _)
+    (λ _. pick-cases P (eqb (n % 256) 3) (λ _. f e .1 .1 .0 _ _) (λ _. pick-cases P (eqb (n % 256) 4) (λ _. f e .1 .1 .1 .0 _) (λ _. f e .1 .1 .1 .1)))))
 
 -- a number that is told, if it is one of these
-pub heard-refused : (n : ℕ) (out rx msg : List ℕ) → (refuses n ≡ true → n % 256 ≡ 0) → tellsRefusal (heard n out rx msg) ≡ refuses n
-unfolding heard
-heard-refused n out rx msg tells =
-    pick-cases S (eqb (n % 256) 0) (λ _. answer-refused (n / 256) out rx msg)
-    (λ e. pick-cases S (eqb (n % 256) 1) (λ _. other e)
-    (λ _. pick-cases S (eqb (n % 256) 2) (λ _. other e)
-    (λ _. pick-cases S (eqb (n % 256) 3) (λ _. other e) (λ _. pick-cases S (eqb (n % 256) 4) (λ _. other e) (λ _. other e)))))
-  where
-    S : Show → Type 0
-    S sh = tellsRefusal sh ≡ refuses n
+module _ (n : ℕ) (out rx msg : List ℕ) (tells : refuses n ≡ true → n % 256 ≡ 0) where
+  other : eqb (n % 256) 0 ≡ false → false ≡ refuses n
+  other e = go (refuses n) refl
+    where
+      go : (b : Bool) → refuses n ≡ b → false ≡ b
+      go false f = refl
+      go true f = absurd (eqb-false (n % 256) 0 e (tells f))
 
-    other : eqb (n % 256) 0 ≡ false → false ≡ refuses n
-    other e = go (refuses n) refl
-      where
-        go : (b : Bool) → refuses n ≡ b → false ≡ b
-        go false f = refl
-        go true f = absurd (eqb-false (n % 256) 0 e (tells f))
+  pub heard-refuses : G.refuses (heard n out rx msg) ≡ refuses n
+  heard-refuses =
+      heard-all (λ (sh : Show). G.refuses sh ≡ refuses n) n out rx msg (go (answer-number (n / 256) out rx msg))
+      (λ e. let f = other e in ((λ _ _. f), ((λ _ _. f), ((λ _ _. f), ((λ _. f), f)))))
+    where
+      go : {i : ℕ} → Numbered (n / 256) i → has i callers ≡ low (n / 256)
+      go (inl e) = ap (λ (k : ℕ). has k callers) e ∙ low-listed (n / 256)
+      go (inr (e, f)) = ap (λ (k : ℕ). has k callers) e ∙ sym f
+
+  -- .. and 25 is never told
+  pub heard-refused : eqb closedHours (n / 256) ≡ false → tellsRefusal (heard n out rx msg) ≡ refuses n
+  heard-refused few = heard-all (λ (sh : Show). G.refuses sh ≡ refuses n → tellsRefusal sh ≡ refuses n) n out rx msg (go (answer-number (n / 256) out rx msg)) (λ e. ((λ _ _ f. f), ((λ _ _ f. f), ((λ _ _ f. f), ((λ _ f. f), λ f. f))))) heard-refuses
+    where
+      go : {i : ℕ} → Numbered (n / 256) i → has i callers ≡ low (n / 256) → has i (closedHours ∷ callers) ≡ low (n / 256)
+      go {i = i} (inl e) f = ap (λ (k : ℕ). pick (eqb closedHours k) true (has i callers)) e ∙ ap (λ (b : Bool). pick b true (has i callers)) few ∙ f
+      go {i = i} (inr (e, _)) f = ap (λ (k : ℕ). pick (eqb closedHours k) true (has i callers)) e ∙ f
+
+-- what is no refusal at all is none of the caller's
+pub unrefused-show : (sh : Show) → tellsRefusal sh ≡ false → G.refuses sh ≡ false
+unrefused-show (told a) e = go (eqb closedHours (number a)) e
+  where
+    go : (b : Bool) → pick b true (has (number a) callers) ≡ false → has (number a) callers ≡ false
+    go true e = absurd (true≢false e)
+    go false e = e
+unrefused-show (read at len) e = e
+unrefused-show (writeRx at len) e = e
+unrefused-show (writeLent at len) e = e
+unrefused-show (writeBytes b) e = e
+unrefused-show close e = e

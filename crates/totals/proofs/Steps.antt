@@ -29,7 +29,7 @@ module _ (rec : List ℕ) (e : Event) (P : Crossed → Type 0) (away : P (turned
 
   pub acted-all : (x : Act) → P (acted rec e x)
   unfolding crossStart crossRead crossWrote crossFault
-  acted-all (start n a b) = crossing-all _ (λ l s. put-back l (callNumbered n a b (st s (e .rx) (e .msg)) (e .lent) (requestNumbered n a b) (unknownCall (st s (e .rx) (e .msg)))))
+  acted-all (start n a b i) = crossing-all _ (λ l s. put-back l (callNumbered n a b (st s (e .rx) (e .msg)) (e .lent) (requestNumbered n a b) (unknownCall (st s (e .rx) (e .msg)))))
   acted-all (report (hasRead k)) =
       crossing-all _ (λ l s. let t : St = st s (e .rx) (e .msg) in
       pick-cases P (stays t (length (e .lent)) k) (λ _. stayed (s .buf .tail + k) (reportRead t (length (e .lent)) k .reply)) (λ _. put-back l (reportRead t (length (e .lent)) k)))

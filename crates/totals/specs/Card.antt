@@ -1,32 +1,29 @@
--- The card: what a host adds up of its own reports, that the record shows these sums, and what is refused: 21 behind the table of misuse.
+-- The card: what a host adds up of its own reports, that the record shows these sums, and what is refused: 25 and 21 behind the table of misuse.
 -- Assumes nothing.
 use Prim.Native.Nat.{ℕ, _+_, _*_, _%_, _≤_, _<_, _^_}
-use mathlib.Core.Bool.{Bool, _||_}
+use mathlib.Core.Bool.{Bool, false, _&&_, _||_, not}
 use mathlib.Core.List.{List, [], _∷_}
 use mathlib.Core.Option.{Option, none, some}
 use mathlib.Core.Path.{_≡_}
 use lib.Dec.{leb}
 use lib.ListN.{length}
 use Rattle.protocol.specs.Answers.{Answer, refused}
-use Rattle.protocol.specs.Refusal.{orElse, refuse}
+use Rattle.protocol.specs.Calls.{Call}
+use Rattle.protocol.specs.Hours.{Hours, lets}
+use Rattle.protocol.specs.Refusal.{orElse, refuse, isPush, closedHours}
 use Rattle.protocol.specs.Records.{u64At}
-use Rattle.boundary.specs.Crossing.{Crossed}
+use Rattle.boundary.specs.Crossing.{Crossed, OpenCrossed}
 use Rattle.boundary.specs.Told.{outSize}
 use Rattle.boundary_misuse.specs.Claim.{heardOf, Answers, follow}
-use Rattle.boundary_misuse.specs.Misuse.{hasRead, wrote, fault, Act, start, report, Event, AllWide, Seen, opened, refusal}
+use Rattle.boundary_misuse.specs.Functions.{Functions}
+use Rattle.boundary_misuse.specs.Misuse.{hasRead, wrote, fault, Act, start, report, Event, AllWide, doneBy, Seen, opened, callOf, refusal}
 use Rattle.session_layer.specs.Layer.{asked}
-use Rattle.totals.specs.System.{counting}
-use Rattle.totals.specs.Crossing.{limit, overflowed, receivedOf, consumedOf, writtenOf, readsOf, countAt, totalOpen, totalStart, totalRead, totalWrote, totalFault}
+use Rattle.totals.specs.System.{totalFunctions, counting}
+use Rattle.totals.specs.Crossing.{limit, overflowed, receivedOf, consumedOf, writtenOf, readsOf, countAt}
 
 -- what crosses, on a record with totals
-abbrev pub totalActed : List ℕ → Event → Act → Crossed
-totalActed rec e (start n a b) = totalStart rec (e .rx) (e .msg) (e .lent) n a b (e .out)
-totalActed rec e (report (hasRead k)) = totalRead rec (e .rx) (e .msg) (e .lent) k (e .out)
-totalActed rec e (report wrote) = totalWrote rec (e .rx) (e .msg) (e .lent) (e .out)
-totalActed rec e (report (fault kind code)) = totalFault rec (e .rx) (e .msg) (e .lent) kind code (e .out)
-
 abbrev pub totalBy : List ℕ → Event → Crossed
-totalBy rec e = totalActed rec e (e .act)
+totalBy rec e = doneBy totalFunctions rec e
 
 -- ---- the sums
 
@@ -42,7 +39,7 @@ noSums = record { received = 0; written = 0; reads = 0 }
 -- what an event adds where it is accepted: a read its count, and one read; a write what was last asked; a call, a fault and a close nothing. A call starts
 -- with no reads; "one that reports an error not counted"
 abbrev pub adds : Seen → Sums → Act → Sums
-adds s t (start n a b) = record { received = t .received; written = t .written; reads = 0 }
+adds s t (start n a b i) = record { received = t .received; written = t .written; reads = 0 }
 adds s t (report (hasRead k)) = record { received = t .received + k; written = t .written; reads = t .reads + 1 }
 adds s t (report wrote) = record { received = t .received; written = t .written + asked (s .last); reads = t .reads }
 adds s t (report (fault kind code)) = t
@@ -64,9 +61,18 @@ pub record Shows (capacity : ℕ) (t : Sums) (rec : List ℕ) : Type 0 where
 abbrev pub passes : Sums → Bool
 passes t = leb limit (t .received) || (leb limit (t .written) || leb limit (t .reads))
 
--- "21, after 11": behind all that misuse's table refuses
-abbrev pub refusedBy : Seen → Sums → Event → Option Answer
-refusedBy s t e = orElse (refusal s e) (refuse (passes (adds s t (e .act))) (refused overflowed))
+-- "a start outside the hours is 25, after 10" (document 02, [10]): of the calls that push
+abbrev pub pushes : Option Call → Bool
+pushes none = false
+pushes (some q) = isPush q
+
+abbrev pub closedTo : Option Hours → Event → Act → Option Answer
+closedTo h e (start n a b i) = refuse (not (lets h i) && pushes (callOf n a b (e .lent))) (refused closedHours)
+closedTo h e (report r) = none
+
+-- behind all that misuse's table refuses: 25 of a call; of a report "21, after 11"
+abbrev pub refusedBy : Option Hours → Seen → Sums → Event → Option Answer
+refusedBy h s t e = orElse (refusal s e) (orElse (closedTo h e (e .act)) (refuse (passes (adds s t (e .act))) (refused overflowed)))
 
 -- "Carry in each finished call's answer how many reads it accepted": the last number of the reply
 abbrev pub countIn : Crossed → ℕ
@@ -81,15 +87,16 @@ AnswersBy none k rec e c =
 
 -- ---- event after event, on the record as it was left
 
-abbrev pub EveryMoment : Seen → Sums → List ℕ → List Event → Type 0
-EveryMoment s t rec [] = Shows (s .capacity) t rec
-EveryMoment s t rec (e ∷ es) =
-    Shows (s .capacity) t rec
-    × (AnswersBy (refusedBy s t e) (adds s t (e .act) .reads) rec e (totalBy rec e)
-    × EveryMoment (follow (refusedBy s t e) s e (heardOf (totalBy rec e))) (sumsAfter (refusedBy s t e) t (adds s t (e .act))) (totalBy rec e .rec) es)
+module _ (F : Functions) (h : Option Hours) where
+  abbrev pub EveryMoment : Seen → Sums → List ℕ → List Event → Type 0
+  EveryMoment s t rec [] = Shows (s .capacity) t rec
+  EveryMoment s t rec (e ∷ es) =
+      Shows (s .capacity) t rec
+      × (AnswersBy (refusedBy h s t e) (adds s t (e .act) .reads) rec e (doneBy F rec e)
+      × EveryMoment (follow (refusedBy h s t e) s e (heardOf (doneBy F rec e))) (sumsAfter (refusedBy h s t e) t (adds s t (e .act))) (doneBy F rec e .rec) es)
 
--- "For every list of calls and reports from fresh", well placed or not
-abbrev pub CardClaim : Type 0
-CardClaim =
-    (rec settings banner : List ℕ) (c m : ℕ) → m < 2 ^ 63 → totalOpen rec settings banner c m .number ≡ 0
-    → (es : List Event) → AllWide es → EveryMoment (opened banner c m) noSums (totalOpen rec settings banner c m .rec) es
+-- "For every list of calls and reports from fresh", well placed or not; `hours` are those of the settings that a session opens with
+abbrev pub CardClaim : Functions → (opening : (rec settings banner : List ℕ) → (rx msg : ℕ) → OpenCrossed) → (hours : (settings : List ℕ) → Option Hours) → Type 0
+CardClaim F opening hours =
+    (rec settings banner : List ℕ) (c m : ℕ) → m < 2 ^ 63 → opening rec settings banner c m .number ≡ 0
+    → (es : List Event) → AllWide es → EveryMoment F (hours settings) (opened banner c m) noSums (opening rec settings banner c m .rec) es

@@ -1,4 +1,5 @@
--- What the exported functions of a session come to: a step of the session inside the record, and the totals behind it (document 02, [7]).
+-- A session with totals: a step of the session inside the record, and the totals behind it (document 02, [7]). The exported functions are these with hours behind them
+-- (hours_totals/specs/Crossing).
 --
 -- The record is the session's 256 bytes and five numbers of eight bytes: the bytes received, consumed and written since the opening, the length of
 -- the piece that was last asked to be written, and the reads accepted in the call that is pending or was last over ([8]). A reply that tells an answer

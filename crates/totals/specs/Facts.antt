@@ -1,5 +1,5 @@
 -- Facts on totals and reads: document 02's [7] and [8] and the trials that came with them. What an event adds, what is refused, where the numbers lie, sessions run on
--- the exported functions, moment by moment, and the plain reader's card.
+-- a record with totals, moment by moment, and the plain reader's card.
 -- Assumes nothing.
 use Prim.Native.Nat.{ℕ, suc, _+_, _*_, _≤_, _<_, _^_}
 use mathlib.Core.Bool.{Bool, true, false}
@@ -10,10 +10,11 @@ use lib.ListN.{length, replicate}
 use Rattle.protocol.specs.Answers as A
 use Rattle.protocol.specs.Answers.{Answer, refused, closed}
 use Rattle.protocol.specs.Bytes.{ascii, over}
-use Rattle.protocol.specs.Calls.{v1, Call, call, nextEntry}
+use Rattle.protocol.specs.Calls.{v1, Call, call, nextEntry, Made, anytimes}
+use Rattle.protocol.specs.Hours.{Hours}
 use Rattle.protocol.specs.Fact.{Fact}
 use Rattle.protocol.specs.Ids.{letters, published}
-use Rattle.protocol.specs.Messages.{stat, ask, quit}
+use Rattle.protocol.specs.Messages.{stat, ask, quit, send}
 use Rattle.protocol.specs.Reader.{Config, accepted, plainWrites}
 use Rattle.id_table.specs.Settings.{settingsOf}
 use Rattle.record.specs.Record.{words}
@@ -24,6 +25,7 @@ use Rattle.session_reads.specs.Counted.{readsIn}
 use Rattle.boundary.specs.Crossing.{Crossed, crossed}
 use Rattle.boundary.specs.Told.{outSize}
 use Rattle.boundary_misuse.specs.Misuse.{Act, start, report, hasRead, wrote, fault, Event, Seen}
+use Rattle.totals.specs.System.{totalFunctions}
 use Rattle.totals.specs.Card.{totalBy, Sums, adds, sumsAfter, Shows, refusedBy, countIn, AnswersBy, EveryMoment}
 use Rattle.totals.specs.Crossing.{recordSize, limit, overflowed, receivedOf, consumedOf, writtenOf, readsOf, totalOpen}
 use Rattle.totals.specs.Logged.{CardAt, CardsAt, plainCards, shownBy}
@@ -59,7 +61,7 @@ added =
     ∷ adding (read 3 5) (report (fault 0 0)) 100 200 7
     ∷ adding (writeRx 3 5) (report (fault 1 7)) 100 200 7
     ∷ adding close (report (fault 1 7)) 100 200 7
-    ∷ adding (told A.done) (start 1 0 0) 100 200 0
+    ∷ adding (told A.done) (start 1 0 0 0) 100 200 0
     -- what is refused adds nothing
     ∷ record { computed = sumsAfter (some (refused 11)) (summing 1 2 5) (summing 3 4 6); paper = summing 1 2 5 }
     ∷ record { computed = sumsAfter none (summing 1 2 5) (summing 3 4 6); paper = summing 3 4 6 }
@@ -74,7 +76,7 @@ most = 18446744073709551615
 abbrev refusing : Show → (ended : Bool) → Sums → Act → (rx : ℕ) → Option Answer → Fact (Option Answer)
 refusing last ended t a rx p =
     record {
-      computed = refusedBy (seen last ended) t (record { act = a; lent = path; rx = replicate rx 0; msg = replicate 20 0; out = replicate 120 0 });
+      computed = refusedBy none (seen last ended) t (record { act = a; lent = path; rx = replicate rx 0; msg = replicate 20 0; out = replicate 120 0 });
       paper = p;
     }
 
@@ -93,7 +95,7 @@ refusals =
     ∷ refusing close false (sums most most) (report wrote) 16 none
     ∷ refusing (writeRx 3 5) false (sums most most) (report (fault 1 7)) 16 none
     ∷ refusing (read 3 5) false (sums most most) (report (fault 0 0)) 16 none
-    ∷ refusing (told A.done) false (sums most most) (start 1 0 0) 16 none
+    ∷ refusing (told A.done) false (sums most most) (start 1 0 0 0) 16 none
     -- "a read report that would take a pending call's read count past 2^64 − 1 is 21 too" ([12]); a write, a close and a fault are no read, and a call begins with none
     ∷ refusing (read 3 5) false (summing 0 0 18446744073709551614) (report (hasRead 5)) 16 none
     ∷ refusing (read 3 5) false (summing 0 0 most) (report (hasRead 1)) 16 (some (refused 21))
@@ -101,7 +103,7 @@ refusals =
     ∷ refusing (writeRx 3 5) false (summing 0 0 most) (report wrote) 16 none
     ∷ refusing close false (summing 0 0 most) (report wrote) 16 none
     ∷ refusing (read 3 5) false (summing 0 0 most) (report (fault 0 0)) 16 none
-    ∷ refusing (told A.done) false (summing 0 0 most) (start 1 0 0) 16 none
+    ∷ refusing (told A.done) false (summing 0 0 most) (start 1 0 0 0) 16 none
     -- 3, 6, 5 and 11 first
     ∷ refusing (read 3 5) false (sums most 0) (report (hasRead 5)) 15 (some (refused 3))
     ∷ refusing (writeRx 3 5) false (sums 0 most) (report wrote) 15 (some (refused 3))
@@ -112,10 +114,10 @@ refusals =
     ∷ refusing (writeRx 3 5) false (sums most most) (report (hasRead 5)) 16 (some (refused 5))
     ∷ refusing (read 3 5) false (sums most most) (report (hasRead 6)) 16 (some (refused 11))
     ∷ refusing (read 3 5) false (sums most most) (report (hasRead 0)) 16 (some (refused 11))
-    ∷ refusing (read 3 5) false (sums most most) (start 1 0 0) 16 (some (refused 4))
+    ∷ refusing (read 3 5) false (sums most most) (start 1 0 0 0) 16 (some (refused 4))
     ∷ []
 
--- ---- where the numbers lie (include/yuglasno.h): 296 bytes, the totals from byte 256 on, the reads from 288 on, eight bytes each, the lowest first; in a reply of 120
+-- ---- where the numbers lie (include/yuglasno.h): 296 bytes ahead of the hours, the totals from byte 256 on, the reads from 288 on, eight bytes each, the lowest first; in a reply of 120
 -- bytes the reads from 112 on
 
 abbrev numbered : ℕ → ℕ → Fact ℕ
@@ -161,7 +163,7 @@ pub data Move : Type 0 where
   does : Act → Move
 
 abbrev calls : (number : ℕ) → Move
-calls n = does (start n 0 0)
+calls n = does (start n 0 0 0)
 
 abbrev writes : Move
 writes = does (report wrote)
@@ -357,7 +359,7 @@ overs =
 
 -- every byte of a slice: of 21, an answer that is a number alone; of 3, to a record of another length and to one that holds no session, and to a slice that is too short
 abbrev away : (record-length : ℕ) → (out : List ℕ) → List ℕ
-away n out = totalBy (replicate n 9) (record { act = start 1 0 0; lent = ascii "/a"; rx = replicate 16 7; msg = replicate 16 7; out = out }) .out
+away n out = totalBy (replicate n 9) (record { act = start 1 0 0 0; lent = ascii "/a"; rx = replicate 16 7; msg = replicate 16 7; out = out }) .out
 
 abbrev pub replies : List (Fact (List ℕ))
 replies =
@@ -371,12 +373,15 @@ replies =
 
 -- ---- the plain reader's card: consumed and written after each call
 
-abbrev plainly : (capacity : ℕ) → List Call → (incoming : List ℕ) → List (ℕ × ℕ) → Fact (List (ℕ × ℕ))
-plainly c qs u p =
+abbrev under : Option Hours → (capacity : ℕ) → List Call → (incoming : List ℕ) → List (ℕ × ℕ) → Fact (List (ℕ × ℕ))
+under h c qs u p =
     record {
-      computed = plainCards (record { setting = record { dialect = published; features = replicate 7 false; ended = false }; capacity = c; close = accepted }) closed qs (length u) u [];
+      computed = plainCards h (record { setting = record { dialect = published; features = replicate 7 false; ended = false }; capacity = c; close = accepted }) closed (anytimes qs) (length u) u [];
       paper = p;
     }
+
+abbrev plainly : (capacity : ℕ) → List Call → (incoming : List ℕ) → List (ℕ × ℕ) → Fact (List (ℕ × ℕ))
+plainly c qs u p = under none c qs u p
 
 abbrev stat1 : Call
 stat1 = call (ask stat (ascii "/a"))
@@ -391,6 +396,9 @@ plains =
     ∷ plainly 64 (nextEntry v1 ∷ nextEntry v1 ∷ []) listing ((23, 0) ∷ (43, 0) ∷ [])
     -- quit, and 6 from then on
     ∷ plainly 16 (stat1 ∷ call quit ∷ stat1 ∷ []) (statReply ++ statReply) ((16, 10) ∷ (16, 18) ∷ (16, 18) ∷ [])
+    -- a push that starts, and one that the hours turn away
+    ∷ plainly 16 (stat1 ∷ call (send (ascii "/a") 1) ∷ []) statReply ((16, 10) ∷ (16, 22) ∷ [])
+    ∷ under (some []) 16 (stat1 ∷ call (send (ascii "/a") 1) ∷ []) statReply ((16, 10) ∷ (16, 10) ∷ [])
     ∷ []
 
 abbrev pub showings : List (Fact (List (ℕ × ℕ)))
@@ -403,12 +411,13 @@ pub record Bounded : Type 0 where
   pub most-fits : below limit most most
   pub over-in : below limit (suc most) 0 → ⊥
   pub over-out : below limit 0 (suc most) → ⊥
-  pub means : (g : Config) (qs : List Call) (u : List ℕ) → length u < 2 ^ 64 → length (plainWrites g qs) < 2 ^ 64 → Within (below limit) g qs u
+  pub means : (h : Option Hours) (g : Config) (ms : List Made) (u : List ℕ) → length u < 2 ^ 64 → length (plainWrites h g ms) < 2 ^ 64 → Within (below limit) h g ms u
 
 -- what the record shows when a call is over: a refused call leaves the reads, any other has its own; a record for each call, and no other
 pub record Ended : Type 0 where
   pub refused-leaves : (m r n k : ℕ) (e : Entry) (rec : List ℕ) → e .answer ≡ refused 8 → CardAt m r n k e rec → readsOf rec ≡ k
   pub missing-leaves : (m r n k : ℕ) (e : Entry) (rec : List ℕ) → e .answer ≡ A.missing 1 → CardAt m r n k e rec → readsOf rec ≡ k
+  pub closed-leaves : (m r n k : ℕ) (e : Entry) (rec : List ℕ) → e .answer ≡ refused 25 → CardAt m r n k e rec → readsOf rec ≡ k
   pub others-count : (m r n k : ℕ) (e : Entry) (rec : List ℕ) → e .answer ≡ A.broken closed → CardAt m r n k e rec → readsOf rec ≡ readsIn (e .asks)
   pub all-consumed : (r n k : ℕ) (e : Entry) (rec : List ℕ) → e .unread ≡ [] → CardAt 5 r n k e rec → consumedOf rec ≡ 5
   pub adds-up : (m r n k : ℕ) (e f : Entry) (a b : List ℕ) → CardsAt m r n k (e ∷ f ∷ []) (a ∷ b ∷ [])
@@ -432,9 +441,9 @@ pub record Shown : Type 0 where
 
 -- .. at every moment: each event is answered, what it leaves shows the sums, and the next goes on from there
 pub record Momentary : Type 0 where
-  pub first : (s : Seen) (t : Sums) (rec : List ℕ) → EveryMoment s t rec [] → readsOf rec ≡ t .reads
-  pub answered : (s : Seen) (t : Sums) (rec : List ℕ) (e : Event) → refusedBy s t e ≡ none → outSize ≤ length (e .out) → totalBy rec e .number ≡ 0
-      → EveryMoment s t rec (e ∷ []) → countIn (totalBy rec e) ≡ adds s t (e .act) .reads
-  pub taken : (s : Seen) (t : Sums) (rec : List ℕ) (e f : Event) → refusedBy s t e ≡ none → EveryMoment s t rec (e ∷ f ∷ []) → readsOf (totalBy rec e .rec) ≡ adds s t (e .act) .reads
-  pub turned-away : (s : Seen) (t : Sums) (rec : List ℕ) (e f : Event) → refusedBy s t e ≡ some (refused 4) → EveryMoment s t rec (e ∷ f ∷ []) → readsOf (totalBy rec e .rec) ≡ t .reads
-  pub last : (s : Seen) (t : Sums) (rec : List ℕ) (e : Event) → refusedBy s t e ≡ none → EveryMoment s t rec (e ∷ []) → readsOf (totalBy rec e .rec) ≡ adds s t (e .act) .reads
+  pub first : (s : Seen) (t : Sums) (rec : List ℕ) → EveryMoment totalFunctions none s t rec [] → readsOf rec ≡ t .reads
+  pub answered : (s : Seen) (t : Sums) (rec : List ℕ) (e : Event) → refusedBy none s t e ≡ none → outSize ≤ length (e .out) → totalBy rec e .number ≡ 0
+      → EveryMoment totalFunctions none s t rec (e ∷ []) → countIn (totalBy rec e) ≡ adds s t (e .act) .reads
+  pub taken : (s : Seen) (t : Sums) (rec : List ℕ) (e f : Event) → refusedBy none s t e ≡ none → EveryMoment totalFunctions none s t rec (e ∷ f ∷ []) → readsOf (totalBy rec e .rec) ≡ adds s t (e .act) .reads
+  pub turned-away : (s : Seen) (t : Sums) (rec : List ℕ) (e f : Event) → refusedBy none s t e ≡ some (refused 4) → EveryMoment totalFunctions none s t rec (e ∷ f ∷ []) → readsOf (totalBy rec e .rec) ≡ t .reads
+  pub last : (s : Seen) (t : Sums) (rec : List ℕ) (e : Event) → refusedBy none s t e ≡ none → EveryMoment totalFunctions none s t rec (e ∷ []) → readsOf (totalBy rec e .rec) ≡ adds s t (e .act) .reads

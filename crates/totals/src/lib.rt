@@ -1,1 +1,1 @@
-// Totals on the job card (document 02, [7]): what the exported functions come to on a record with totals, and what is promised of it. No code.
+// Totals on the job card (document 02, [7]): what crosses on a record with totals, and what is promised of the functions of a record. No code.

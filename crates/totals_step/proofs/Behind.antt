@@ -25,7 +25,7 @@ unfolding numbersFrom
 own-words rec e b = words-from rec b 5 32 (omega arith)
 
 -- what is put behind some bytes
-put-behind : (x w m : List ℕ) (k off : ℕ) → length x + k ≡ off → k + length m ≤ length w → put (x ++ w) off m ≡ x ++ put w k m
+pub put-behind : (x w m : List ℕ) (k off : ℕ) → length x + k ≡ off → k + length m ≤ length w → put (x ++ w) off m ≡ x ++ put w k m
 unfolding over
 put-behind x w m k off e fits =
     let a : length (x ++ w) ≡ length x + length w = length-append x w in

@@ -52,7 +52,7 @@ holds-none rec settings banner rx msg =
     go (L.Refused n) e z = absurd (lent-some settings n e z)
 
 -- into no record none is opened
-unopened : (settings banner : List ℕ) (rx msg : ℕ) → crossOpen [] settings banner rx msg .number ≡ 0 → ⊥
+pub unopened : (settings banner : List ℕ) (rx msg : ℕ) → crossOpen [] settings banner rx msg .number ≡ 0 → ⊥
 unfolding crossOpen
 unopened settings banner rx msg =
     pick-cases (λ (o : OpenCrossed). o .number ≡ 0 → ⊥) (ltb 0 (openRefusal rx msg)) (λ h e. omega (arith, ltb-true 0 (openRefusal rx msg) h)) (λ _ e. omega arith)

@@ -141,7 +141,7 @@ fn put_count(n: u32, k: u64, out: &mut [u8])
 }
 
 // A refusal has no reads.
-fn refused(n: u32, out: &mut [u8]) -> u32
+pub fn refused(n: u32, out: &mut [u8]) -> u32
     ensures { λ r. ⌜ (r ≡ n) × (now (out .exit) ≡ counted n 0 (now (out .entry))) ⌝ }
 {
     put_count(n, 0, out);

@@ -36,10 +36,10 @@ use Rattle.totals_taken.specs.Taken.{awaitsRead, awaitsWrite, takesRead,
 -- ---- what is told
 
 module _ (s : St) (φ : Frame) (o : Out) where
-  abbrev Tells : Bool → Type 0
+  abbrev pub Tells : Bool → Type 0
   Tells b = b ≡ not (refuses (replyNumber (o .reply)))
 
-  refused-by : (n : ℕ) → refuses (256 * n) ≡ true → o ≡ out (refusing (s .ses) (A.Refused n)) (s .rx) (s .msg) → Tells false
+  pub refused-by : (n : ℕ) → refuses (256 * n) ≡ true → o ≡ out (refusing (s .ses) (A.Refused n)) (s .rx) (s .msg) → Tells false
   unfolding replyNumber
   refused-by n h e = rw (e, h)
 
@@ -130,7 +130,7 @@ module _ (rec rx msg lent out : List ℕ) where
       (reports s lent rx msg n (omega (arith, l)) f b sh (asked-of _ _ (s .pending)) r x)
 
   -- .. or none
-  on-record : Bytes rec → outSize ≤ length out → (f : Option Session → Bool) (k : St → Crossed) → f none ≡ false
+  pub on-record : Bytes rec → outSize ≤ length out → (f : Option Session → Bool) (k : St → Crossed) → f none ≡ false
       → ((s : Session) → Narrow s → f (some s) ≡ not (refuses (k (st s rx msg) .number))) → f (loaded rec) ≡ not (refuses (crossing rec rx msg out k .number))
   on-record b o f k z g = rw (le-ltb (length out) outSize o) (go (loaded rec) (loaded-narrow rec b))
     where

@@ -18,11 +18,13 @@ pub struct Call {
     pub mode: u32,
     pub mtime: u32,
     pub flags: u32,
+    /// when a push starts
+    pub moment: u32,
 }
 
 impl Call {
     pub fn new(what: What) -> Call {
-        Call { what, path: String::new(), data: vec![], mode: 0, mtime: 0, flags: 0 }
+        Call { what, path: String::new(), data: vec![], mode: 0, mtime: 0, flags: 0, moment: 0 }
     }
 
     pub fn on(what: What, path: &str) -> Call {
@@ -52,7 +54,7 @@ impl fmt::Display for Call {
             write!(f, " flags {:x}", self.flags)?;
         }
         if matches!(self.what, SendStart | SendV2Start | Send | SendV2) {
-            write!(f, " mode {}", self.mode)?;
+            write!(f, " mode {} moment {}", self.mode, self.moment)?;
         }
         if matches!(self.what, SendDone | Send | SendV2) {
             write!(f, " mtime {}", self.mtime)?;

@@ -4,13 +4,14 @@ use crate::call::{Answer, Call, What, Why};
 use crate::counted::{fill, OVERFLOW};
 use crate::error::Error;
 use crate::hex::{hex, spaced};
+use crate::hours::OUTSIDE;
 use crate::intended::{aside, PATH_MOST};
 use crate::ours::{self, opened, Step};
 use crate::theirs::{self, run};
 use crate::trials::{list, seen};
 use crate::wire::{Fault, Wire};
 use std::panic::{catch_unwind, AssertUnwindSafe};
-use yuglasno::raw;
+use yuglasno::{raw, Settings};
 
 const SENDRECV: &str = "features=sendrecv_v2";
 
@@ -20,7 +21,7 @@ pub fn print() -> bool {
     let shown = [
         small_buffers(), long_path(), long_path_with_flags(), long_path_without_feature(), unknown_flag(),
         unknown_flag_to_push(), unknown_flag_without_feature(), entries_then_fail(), chunk_then_fail(), after_quit(), read_of_nothing(),
-        read_beyond(), while_pending(), no_room(),
+        read_beyond(), while_pending(), no_room(), outside_hours(),
     ];
     let wrong = shown.iter().filter(|well| !**well).count();
     println!("{} differences run, {wrong} not as stated", shown.len());
@@ -178,7 +179,7 @@ fn while_pending() -> bool {
     let mut told = vec![];
     host.step_with(Step::RecvNext, b"", 0, 0, |host, _| {
         let out = &mut [0; raw::REPLY];
-        told.push(raw::start(&mut host.rec, &mut host.rx, &mut host.msg, b"", 14, 0, 0, out) >> 8);
+        told.push(raw::start(&mut host.rec, &mut host.rx, &mut host.msg, b"", 14, 0, 0, 0, out) >> 8);
         told.push(raw::wrote(&mut host.rec, &mut host.rx, &mut host.msg, b"", out) >> 8);
         told.push(raw::read(&mut host.rec, &mut host.rx[1..], &mut host.msg, b"", 1, out) >> 8);
     });
@@ -198,4 +199,18 @@ fn no_room() -> bool {
     let written = host.step(Step::Recv, b"/a", 0, 0);
     let (what, theirs) = ("a read, and a write, where 2^64 - 1 bytes were counted", "keeps no totals: it reads and writes on");
     say(what, format!("{:?}", (read, written)), theirs.into(), (read, written) == (OVERFLOW, OVERFLOW))
+}
+
+// a session whose hours have no moment for a push
+fn outside_hours() -> bool {
+    let mut settings = Settings::published();
+    let loaded = settings.load_hours(b"day,open,close\n").is_ok();
+    let mut host = ours::Host::open_with(&settings, b"", vec![0; 16], Miscounts { first: None, incoming: b"" }).unwrap();
+    let (told, what) = (host.step(Step::Send, b"/a", 0o100644, 0), "SEND \"/a\", mode 33188, outside the hours");
+    match aside(&Call { mode: 0o100644, ..Call::on(What::SendStart, "/a") }, b"", 16) {
+        Ok((answer, written)) => {
+            say(what, format!("{told}"), format!("has no hours: {answer:?}, writes {}", spaced(&written)), loaded && told == OUTSIDE)
+        }
+        Err(text) => say(what, format!("{told}"), text, false),
+    }
 }

@@ -5,9 +5,12 @@ mod reply;
 use crate::call::{Call, What};
 use crate::intended::{self, PATH_MOST};
 use crate::plan::{Cuts, FailedWrite, List};
-use crate::rng::Rng;
+use crate::rng::{mixed, Rng};
 use crate::wire::Fault;
 use What::*;
+
+/// Moments have random numbers of their own, so that all else of a list is what its seed always made.
+const MOMENTS: u64 = 0x6d6f_6d65_6e74;
 
 /// What lists are made of.
 #[derive(Clone, Copy, PartialEq, Eq)]
@@ -24,7 +27,8 @@ pub fn list(seed: u64, kind: Kind) -> List {
     // with reads of few bytes, only few bytes
     let most = if matches!(cuts, Cuts::Of(1..=16) | Cuts::UpTo(1..=16, _)) { capacity.min(600) } else { capacity };
     let banner = banner::random(rng);
-    let calls = calls(rng, capacity, kind);
+    let mut calls = calls(rng, capacity, kind);
+    calls.iter_mut().zip(0..).for_each(|(call, i)| call.moment = mixed(seed ^ MOMENTS, i) as u32);
     let damage = rng.pick(&[0, 0, 3, 8, 20]);
     let failed_write = rng.chance(25).then(|| FailedWrite { at: rng.below(14), fault: fault(rng), goes_on: rng.chance(50) });
     let fails = if failed_write.is_some() { 25 } else { 3 };

@@ -14,6 +14,7 @@ beside_000! {
     mod gen;
     mod held;
     mod hex;
+    mod hours;
     mod intended;
     mod lists;
     mod misuse;
@@ -46,6 +47,7 @@ mod replay;
 #[cfg(original)]
 const USAGE: &str = "\
 oracle lists N SEED            compare N random lists of calls
+oracle hours N SEED            compare N random lists of calls with hours and without, on this library
 oracle list SEED               one of them, by its own seed, printed
 oracle trials                  document 01's trial pieces, paths with a NUL and banners, on both sides
 oracle differences             the intended differences, with their bytes
@@ -62,6 +64,7 @@ fn main() {
     let args: Vec<&str> = args.iter().map(|a| a.as_str()).collect();
     let well = match args[..] {
         ["lists", count, seed] => lists::run(number(count), number(seed)),
+        ["hours", count, seed] => hours::run(number(count), number(seed)),
         ["list", seed] => lists::one(number(seed)),
         ["trials"] => trials::run(),
         ["differences"] => differences::print(),

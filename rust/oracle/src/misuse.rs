@@ -28,7 +28,7 @@ impl Copy {
     fn ask(&mut self, which: usize, lent: &[u8], number: usize) -> u32 {
         let Copy { rec, rx, msg, out } = self;
         match which {
-            0 => raw::start(rec, rx, msg, lent, number as u32, 0, 0, out),
+            0 => raw::start(rec, rx, msg, lent, number as u32, 0, 0, 0, out),
             1 => raw::read(rec, rx, msg, lent, number, out),
             2 => raw::wrote(rec, rx, msg, lent, out),
             _ => raw::fault(rec, rx, msg, lent, number as u32, 9, out),

@@ -10,7 +10,7 @@ pub enum Step {
     Stat = 1, StatV2, List, ListV2, Recv, RecvV2, Send, SendV2, Data, SendDone, Quit, Entry, EntryV2, RecvNext,
 }
 
-/// Opens a session under the published ids: 000 has no others.
+/// Opens a session under the published ids and without hours: 000 has no others, and none.
 pub fn opened(rec: &mut [u8], banner: &[u8], rx: usize, msg: usize) -> u32 {
     raw::open(rec, Settings::published().as_bytes(), banner, rx, msg)
 }
@@ -23,15 +23,23 @@ pub struct Host<W> {
     pub msg: Vec<u8>,
     pub out: [u8; raw::REPLY],
     pub wire: W,
+    /// When the next step starts.
+    pub moment: u32,
     /// Whether `run` reports every single read.
     pub single: bool,
 }
 
 impl<W: Wire> Host<W> {
-    /// Opens a session; the message buffer is as long as the receive buffer.
+    /// Opens a session as `opened` does; the message buffer is as long as the receive buffer.
     pub fn open(banner: &[u8], rx: Vec<u8>, wire: W) -> Result<Self, u32> {
-        let mut host = Host { rec: [0; raw::RECORD], msg: vec![0xEE; rx.len()], rx, out: [0; raw::REPLY], wire, single: false };
-        match opened(&mut host.rec, banner, host.rx.len(), host.msg.len()) {
+        Self::open_with(&Settings::published(), banner, rx, wire)
+    }
+
+    /// The same, with other settings.
+    pub fn open_with(settings: &Settings, banner: &[u8], rx: Vec<u8>, wire: W) -> Result<Self, u32> {
+        let (rec, msg, out) = ([0; raw::RECORD], vec![0xEE; rx.len()], [0; raw::REPLY]);
+        let mut host = Host { rec, msg, rx, out, wire, moment: 0, single: false };
+        match raw::open(&mut host.rec, settings.as_bytes(), banner, host.rx.len(), host.msg.len()) {
             0 => Ok(host),
             number => Err(number),
         }
@@ -65,6 +73,11 @@ impl<W: Wire> Host<W> {
         &self.rx[self.part(1)]
     }
 
+    #[inline]
+    fn start(&mut self, step: Step, lent: &[u8], a: u32, b: u32) -> u32 {
+        raw::start(&mut self.rec, &mut self.rx, &mut self.msg, lent, step as u32, a, b, self.moment, &mut self.out)
+    }
+
     /// A step from its start to its answer: document 01's number.
     #[inline]
     pub fn step(&mut self, step: Step, lent: &[u8], a: u32, b: u32) -> u32 {
@@ -74,7 +87,7 @@ impl<W: Wire> Host<W> {
     /// The same; `before` sees the session before each report, with what it asks for.
     #[inline]
     pub fn step_with(&mut self, step: Step, lent: &[u8], a: u32, b: u32, mut before: impl FnMut(&mut Self, u32)) -> u32 {
-        let mut reply = raw::start(&mut self.rec, &mut self.rx, &mut self.msg, lent, step as u32, a, b, &mut self.out);
+        let mut reply = self.start(step, lent, a, b);
         loop {
             if reply & 255 == 0 {
                 return reply >> 8;
@@ -98,7 +111,7 @@ impl<W: Wire> Host<W> {
     /// A step as the crate's session takes it over a link: reads are gathered until the need is met, unless `single`.
     #[inline]
     pub fn run(&mut self, step: Step, lent: &[u8], a: u32, b: u32) -> u32 {
-        let mut reply = raw::start(&mut self.rec, &mut self.rx, &mut self.msg, lent, step as u32, a, b, &mut self.out);
+        let mut reply = self.start(step, lent, a, b);
         loop {
             if reply & 255 == 0 {
                 return reply >> 8;

@@ -5,6 +5,8 @@ use yuglasno::{raw, Settings, Totals};
 
 /// The number of a quit at the boundary.
 const QUIT: u32 = 11;
+/// When a step starts: without hours it may be any moment.
+const ANYTIME: u32 = 1998;
 
 /// A record's bytes, read from the front.
 struct Fields<'a>(&'a [u8]);
@@ -149,7 +151,7 @@ impl Replay {
                 self.quit |= number == QUIT;
                 (self.reads, self.consumed) = (0, self.totals().consumed);
                 let Replay { rec, rx, msg, out, lent, .. } = self;
-                self.reply = raw::start(rec, rx, msg, lent, number, a, b, out);
+                self.reply = raw::start(rec, rx, msg, lent, number, a, b, ANYTIME, out);
                 true
             }
             3 => self.read(f),

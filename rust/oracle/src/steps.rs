@@ -14,6 +14,7 @@ pub type Stepper<'s, W> = &'s mut dyn FnMut(&mut Host<W>, Step, &[u8], u32, u32)
 
 pub fn make<W: Wire>(host: &mut Host<W>, call: &Call, step: Stepper<W>) -> Made {
     let mut entries = vec![];
+    host.moment = call.moment;
     let answer = made(host, call, &mut entries, step).unwrap_or_else(Answer::Not);
     Made { answer, entries }
 }

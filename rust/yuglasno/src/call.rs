@@ -1,4 +1,5 @@
 //! The calls of a session with what each is lent, and what the host reports of a step.
+use crate::moment::Moment;
 use crate::numbers::{FileMode, SyncFlags};
 use crate::shown::Shown;
 use std::fmt;
@@ -19,10 +20,10 @@ pub enum Call<'l> {
     Recv(&'l [u8]),
     /// Starts a v2 pull.
     RecvV2(&'l [u8], SyncFlags),
-    /// Starts a push; data and [`Call::SendDone`] follow.
-    Send(&'l [u8], FileMode),
+    /// Starts a push, at a moment that a session with hours looks at; data and [`Call::SendDone`] follow.
+    Send(&'l [u8], FileMode, Moment),
     /// Starts a v2 push.
-    SendV2(&'l [u8], FileMode, SyncFlags),
+    SendV2(&'l [u8], FileMode, SyncFlags, Moment),
     /// Data of a push, of any length.
     Data(&'l [u8]),
     /// Ends a push, with the file's time in Unix seconds.
@@ -42,9 +43,17 @@ impl<'l> Call<'l> {
     pub fn lent(&self) -> &'l [u8] {
         match *self {
             Self::Stat(path) | Self::StatV2(path) | Self::List(path) | Self::ListV2(path) => path,
-            Self::Recv(path) | Self::RecvV2(path, _) | Self::Send(path, _) | Self::SendV2(path, _, _) => path,
+            Self::Recv(path) | Self::RecvV2(path, _) | Self::Send(path, ..) | Self::SendV2(path, ..) => path,
             Self::Data(data) => data,
             Self::SendDone(_) | Self::Quit | Self::NextEntry | Self::NextEntryV2 | Self::RecvNext => &[],
+        }
+    }
+
+    /// When a push starts; [`Moment::FIRST`] where the call is none, of which no moment counts.
+    pub fn moment(&self) -> Moment {
+        match *self {
+            Self::Send(.., moment) | Self::SendV2(.., moment) => moment,
+            _ => Moment::FIRST,
         }
     }
 
@@ -77,8 +86,8 @@ impl<'l> Call<'l> {
             Self::ListV2(_) => (4, 0, 0),
             Self::Recv(_) => (5, 0, 0),
             Self::RecvV2(_, flags) => (6, 0, flags.0),
-            Self::Send(_, mode) => (7, mode.0, 0),
-            Self::SendV2(_, mode, flags) => (8, mode.0, flags.0),
+            Self::Send(_, mode, _) => (7, mode.0, 0),
+            Self::SendV2(_, mode, flags, _) => (8, mode.0, flags.0),
             Self::Data(_) => (9, 0, 0),
             Self::SendDone(time) => (10, time, 0),
             Self::Quit => (11, 0, 0),
@@ -92,9 +101,9 @@ impl<'l> Call<'l> {
 /// For people: its name, that of the session's method, and behind it the path, where it has one.
 ///
 /// ```
-/// use yuglasno::{Call, FileMode};
+/// use yuglasno::{Call, FileMode, Moment};
 /// assert_eq!(Call::StatV2(b"/jobs/T98.job").to_string(), "stat_v2 /jobs/T98.job");
-/// assert_eq!(Call::Send(b"/a\n", FileMode(0o100644)).to_string(), "send /a\\n");
+/// assert_eq!(Call::Send(b"/a\n", FileMode(0o100644), Moment(0)).to_string(), "send /a\\n");
 /// assert_eq!(Call::RecvNext.to_string(), "recv_next");
 /// ```
 impl fmt::Display for Call<'_> {

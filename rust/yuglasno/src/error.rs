@@ -1,5 +1,6 @@
 //! The answers of a call that did not go through, by their numbers.
 use crate::feature::Feature;
+use crate::hours::Outside;
 use crate::raw::REPLY;
 use crate::reply::word;
 use crate::shown::Shown;
@@ -12,10 +13,10 @@ use std::{fmt, io};
 /// 1 to 11 are the caller's: session and buffers are as before. 12 and 13 are the link's, 14 to 17 the panel's. 18 is that of a reader
 /// of requests, 20 that of a writer of replies: nothing is taken or written. 19 is that of an index, which is as before. 21 is that of a
 /// report that a total, or the count of a call's reads, has no room for: session and buffers are as before. 22 and 23 are those of a table
-/// of ids: the old one stays.
-/// Where several apply, the first of 1, 2, then 3, 6, 4, 5, 8, 7, 9, 10 is answered; of a report 3, 6, 5, 11, 21. Of a table it is 22,
-/// then 23, behind 1 to 3. Of an index it is 3, then 19. Of a reply the settings come first (3, 22, 23), then its kind and numbers (3), then 20;
-/// of a request the settings, then 18.
+/// of ids, 24 that of hours: the old ones stay. 25 is that of a push which the hours don't let start: session and buffers are as before.
+/// Where several apply, the first of 1, 2, then 3, 6, 4, 5, 8, 7, 9, 10, 25 is answered; of a report 3, 6, 5, 11, 21. Of a table it is 22,
+/// then 23, behind 1 to 3, and of an opening's hours 24 behind them. Of an index it is 3, then 19. Of a reply the settings come first
+/// (3, 22, 23), then its kind and numbers (3), then 20; of a request the settings, then 18.
 /// An error borrows nothing: the text of a FAIL is copied out of the message buffer, so `?` hands it on to any caller.
 ///
 /// ```
@@ -84,6 +85,10 @@ pub enum Error {
     BadIds(Box<str>),
     /// 23: two ids of the table are equal. The text says which.
     EqualIds(Box<str>),
+    /// 24: bad hours, in a file or in the settings that a session is opened with. The text says what is seen to be wrong.
+    BadHours(Box<str>),
+    /// 25: a push outside the hours that the session was opened with. Nothing is written.
+    OutsideHours(Outside),
     /// Another number.
     Other(u32),
 }
@@ -115,6 +120,8 @@ impl Error {
             Self::Overflow(_) => 21,
             Self::BadIds(_) => 22,
             Self::EqualIds(_) => 23,
+            Self::BadHours(_) => 24,
+            Self::OutsideHours(_) => 25,
             Self::Other(number) => *number,
         }
     }
@@ -146,6 +153,14 @@ impl Error {
         match number {
             22 => Error::BadIds(seen.into()),
             23 => Error::EqualIds(seen.into()),
+            _ => Error::plain(number),
+        }
+    }
+
+    /// The error of hours, or of an opening with them.
+    pub(crate) fn of_hours(number: u32, seen: String) -> Error {
+        match number {
+            24 => Error::BadHours(seen.into()),
             _ => Error::plain(number),
         }
     }
@@ -191,6 +206,8 @@ impl fmt::Display for Error {
             Self::Overflow(totals) => write!(f, "a total of bytes, or a call's reads, would pass 2^64 - 1 ({totals})"),
             Self::BadIds(seen) => write!(f, "not a table of ids{}", behind(seen)),
             Self::EqualIds(seen) => write!(f, "two ids of the table are equal{}", behind(seen)),
+            Self::BadHours(seen) => write!(f, "bad hours{}", behind(seen)),
+            Self::OutsideHours(outside) => write!(f, "no push may start on {outside}"),
             Self::Other(_) => f.write_str("not a number that this program knows"),
         }
     }

@@ -17,7 +17,8 @@
 //! session.quit(&mut link).unwrap();
 //! ```
 //!
-//! The ids of the messages are the published ones; [`Settings`] have others from a file, and [`Session::open_with`] takes them.
+//! The ids of the messages are the published ones; [`Settings`] have others from a file, and [`Session::open_with`] takes them. From
+//! another file they have [`Hours`] in which a push may start; a push says the [`Moment`] of its start, and any will do where there are none.
 //!
 //! An [`Index`] beside a listing answers which entries are from one time to another, and which is the latest at a time.
 //!
@@ -38,10 +39,13 @@ mod call;
 mod error;
 mod feature;
 mod heard;
+mod hours;
+mod hours_file;
 mod ids;
 mod index;
 mod link;
 mod meanings;
+mod moment;
 mod numbers;
 mod reply;
 mod runs;
@@ -67,13 +71,15 @@ pub use answer::{Answer, Details, Entry, EntryV2, Stat, StatV2};
 pub use call::{Call, Report};
 pub use error::Error;
 pub use feature::Feature;
+pub use hours::{Hours, Outside, Span};
 pub use ids::{Ids, PUBLISHED_IDS};
 pub use index::{Index, Item, INDEX_ENTRIES, INDEX_NAMES};
 pub use link::{code_of, Fault, Link, Pair};
 pub use meanings::{meaning, MEANINGS};
+pub use moment::{Date, Moment, Weekday};
 pub use numbers::{FileMode, SyncFlags};
 pub use session::{Session, Step};
-pub use settings::{Settings, IDS_MOST};
+pub use settings::{Settings, HOURS_MOST, IDS_MOST};
 pub use shown::Shown;
 pub use speak::PanelReply;
 pub use totals::Totals;

@@ -1,13 +1,13 @@
 //! The meanings of the answers' numbers, in a line each: one table, for whoever shows it.
 
 /// Every number that an answer has, with its meaning: 0 to 17 and 21 of a session, 18 of the reader of
-/// requests, 19 of an index, 20 of the writer of replies, 22 and 23 of a table of ids.
+/// requests, 19 of an index, 20 of the writer of replies, 22 and 23 of a table of ids, 24 of hours, 25 of a session that has some.
 ///
 /// ```
 /// let (number, text) = yuglasno::MEANINGS[12];
 /// assert_eq!((number, text), (12, "the channel is closed"));
 /// ```
-pub const MEANINGS: [(u32, &str); 24] = [
+pub const MEANINGS: [(u32, &str); 26] = [
     (0, "done"),
     (1, "the receive buffer is under 8 bytes"),
     (2, "the message buffer is shorter than the receive buffer"),
@@ -32,13 +32,15 @@ pub const MEANINGS: [(u32, &str); 24] = [
     (21, "a read or a write would take a total of bytes, or a call's reads, past 2^64 - 1; it is not counted, and the session still waits"),
     (22, "a file, or the settings of an opening, is no table of ids; the old table stays"),
     (23, "two ids of the table are equal; the old table stays"),
+    (24, "bad hours, in a file or in the settings of an opening; the old hours stay"),
+    (25, "a push outside the hours in which one may start; nothing is written"),
 ];
 
 /// The meaning of an answer's number; `None` for a number that no answer has.
 ///
 /// ```
 /// assert_eq!(yuglasno::meaning(8), Some("a NUL in the path"));
-/// assert_eq!(yuglasno::meaning(24), None);
+/// assert_eq!(yuglasno::meaning(26), None);
 /// ```
 pub fn meaning(number: u32) -> Option<&'static str> {
     MEANINGS.iter().find(|(each, _)| *each == number).map(|(_, text)| *text)

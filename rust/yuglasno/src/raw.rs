@@ -1,4 +1,4 @@
-//! The static library's fourteen functions, and safe ones of the same shape over them. The only file with `unsafe`.
+//! The static library's seventeen functions, and safe ones of the same shape over them. The only file with `unsafe`.
 //!
 //! A slice crosses as its address and its length. The library keeps no pointer: it reads and writes within the
 //! slices that a call lends it, and only until the call returns. Each function answers every input.
@@ -9,13 +9,16 @@ mod linked {
     extern "C" {
         pub fn yuglasno_settings(settings: *mut u8, settings_len: usize) -> u32;
         pub fn yuglasno_ids(settings: *mut u8, settings_len: usize, file: *const u8, file_len: usize) -> u32;
+        pub fn yuglasno_hours(settings: *mut u8, settings_len: usize, file: *const u8, file_len: usize) -> u32;
+        pub fn yuglasno_may_push(settings: *const u8, settings_len: usize, moment: u32) -> u32;
+        pub fn yuglasno_date(moment: u32, out: *mut u8, out_len: usize) -> u32;
         pub fn yuglasno_open(
             rec: *mut u8, rec_len: usize, settings: *const u8, settings_len: usize, banner: *const u8, banner_len: usize,
             rx: usize, msg: usize,
         ) -> u32;
         pub fn yuglasno_start(
             rec: *mut u8, rec_len: usize, rx: *mut u8, rx_len: usize, msg: *mut u8, msg_len: usize,
-            lent: *const u8, lent_len: usize, call: u32, a: u32, b: u32, out: *mut u8, out_len: usize,
+            lent: *const u8, lent_len: usize, call: u32, a: u32, b: u32, moment: u32, out: *mut u8, out_len: usize,
         ) -> u32;
         pub fn yuglasno_read(
             rec: *mut u8, rec_len: usize, rx: *mut u8, rx_len: usize, msg: *mut u8, msg_len: usize,
@@ -54,13 +57,19 @@ mod linked {
 }
 
 /// The length of a record.
-pub const RECORD: usize = 296;
+pub const RECORD: usize = 328;
 /// The length of settings.
 pub const SETTINGS: usize = 128;
 /// The length of a slice that takes any reply.
 pub const REPLY: usize = 120;
 /// The length of an index's slots.
 pub const SLOTS: usize = 65568;
+/// The length of hours, as they stand in settings and in a record.
+pub const HOURS_SIZE: usize = 32;
+/// Where settings have their hours.
+pub const HOURS_IN_SETTINGS: usize = 60;
+/// Where a record has its session's.
+pub const HOURS_IN_RECORD: usize = 296;
 
 /// How many bytes the read that is asked for still wants: the record's number 9, where tail meets the need, less number 3,
 /// the tail. 0 where no read is asked for.
@@ -102,8 +111,25 @@ pub fn ids(settings: &mut [u8], file: &[u8]) -> u32 {
     unsafe { linked::yuglasno_ids(settings.as_mut_ptr(), settings.len(), file.as_ptr(), file.len()) }
 }
 
+/// Puts the hours of a file into `settings`: 0; or, with `settings` left alone, 3 for settings of another length, 24 for a file of another
+/// form.
+pub fn hours(settings: &mut [u8], file: &[u8]) -> u32 {
+    unsafe { linked::yuglasno_hours(settings.as_mut_ptr(), settings.len(), file.as_ptr(), file.len()) }
+}
+
+/// Whether the hours in `settings` let a push start at this moment: 0, or 25; 3 for settings of another length, 24 for settings whose hours no
+/// file could have brought there.
+pub fn may_push(settings: &[u8], moment: u32) -> u32 {
+    unsafe { linked::yuglasno_may_push(settings.as_ptr(), settings.len(), moment) }
+}
+
+/// Writes the date of a moment, in UTC: year, month, day, weekday from Monday's 0 on, minute of the day. 0, or 3 for too short a reply.
+pub fn date(moment: u32, out: &mut [u8]) -> u32 {
+    unsafe { linked::yuglasno_date(moment, out.as_mut_ptr(), out.len()) }
+}
+
 /// Opens a session in `rec`, for buffers of these lengths: 0, or the answer 1 or 2, or 3 for a record or settings of another length, or 22
-/// or 23 for settings whose ids no file could have brought there.
+/// or 23 for settings whose ids no file could have brought there, then 24 for such hours.
 pub fn open(rec: &mut [u8], settings: &[u8], banner: &[u8], rx: usize, msg: usize) -> u32 {
     unsafe {
         linked::yuglasno_open(
@@ -112,13 +138,15 @@ pub fn open(rec: &mut [u8], settings: &[u8], banner: &[u8], rx: usize, msg: usiz
     }
 }
 
-/// Starts call number `call`; `a` is a push's mode or send_done's time, `b` the flags.
+/// Starts call number `call`; `a` is a push's mode or send_done's time, `b` the flags, `moment` when a push starts.
 #[allow(clippy::too_many_arguments)]
-pub fn start(rec: &mut [u8], rx: &mut [u8], msg: &mut [u8], lent: &[u8], call: u32, a: u32, b: u32, out: &mut [u8]) -> u32 {
+pub fn start(
+    rec: &mut [u8], rx: &mut [u8], msg: &mut [u8], lent: &[u8], call: u32, a: u32, b: u32, moment: u32, out: &mut [u8],
+) -> u32 {
     unsafe {
         linked::yuglasno_start(
             rec.as_mut_ptr(), rec.len(), rx.as_mut_ptr(), rx.len(), msg.as_mut_ptr(), msg.len(),
-            lent.as_ptr(), lent.len(), call, a, b, out.as_mut_ptr(), out.len(),
+            lent.as_ptr(), lent.len(), call, a, b, moment, out.as_mut_ptr(), out.len(),
         )
     }
 }

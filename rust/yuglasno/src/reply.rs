@@ -48,10 +48,12 @@ impl Bytes {
 
 /// The answer to a report that a total or the count of reads has no room for.
 pub(crate) const OVERFLOW: u32 = 21;
+/// The answer to a push outside the hours.
+pub(crate) const OUTSIDE: u32 = 25;
 
 /// Whether an answer changes nothing: what was asked for still is.
 pub(crate) fn refused(number: u32) -> bool {
-    matches!(number, 1..=11 | OVERFLOW)
+    matches!(number, 1..=11 | OVERFLOW | OUTSIDE)
 }
 
 /// The `i`-th number of a reply.

@@ -3,6 +3,7 @@ use crate::answer::{Answer, Entry, EntryV2, Stat, StatV2};
 use crate::call::{Call, Report};
 use crate::error::Error;
 use crate::link::{code_of, Fault, Link};
+use crate::moment::Moment;
 use crate::numbers::{FileMode, SyncFlags};
 use crate::reply::{refused, Ask, Part, Reply};
 use crate::session::Session;
@@ -127,14 +128,15 @@ impl<R: AsMut<[u8]>, M: AsMut<[u8]>> Session<R, M> {
         }
     }
 
-    /// Starts a push.
+    /// Starts a push, at this moment: 25 where the session has hours and they don't let it. A push that has begun goes on past its hours.
     pub fn send(
         &mut self,
         link: &mut (impl Link + ?Sized),
         path: impl AsRef<[u8]>,
         mode: FileMode,
+        moment: Moment,
     ) -> Result<(), Error> {
-        self.done(link, &Call::Send(path.as_ref(), mode))
+        self.done(link, &Call::Send(path.as_ref(), mode, moment))
     }
 
     /// Starts a v2 push.
@@ -144,8 +146,9 @@ impl<R: AsMut<[u8]>, M: AsMut<[u8]>> Session<R, M> {
         path: impl AsRef<[u8]>,
         mode: FileMode,
         flags: SyncFlags,
+        moment: Moment,
     ) -> Result<(), Error> {
-        self.done(link, &Call::SendV2(path.as_ref(), mode, flags))
+        self.done(link, &Call::SendV2(path.as_ref(), mode, flags, moment))
     }
 
     /// Data of a push, of any length.

@@ -2,8 +2,10 @@
 use crate::answer::{answer, Answer};
 use crate::call::{Call, Report};
 use crate::error::Error;
-use crate::raw::{self, RECORD, REPLY};
-use crate::reply::{heard, part, refused, Ask, Reply, OVERFLOW};
+use crate::hours::{Hours, Outside};
+use crate::moment::Moment;
+use crate::raw::{self, HOURS_IN_RECORD, RECORD, REPLY};
+use crate::reply::{heard, part, refused, Ask, Reply, OUTSIDE, OVERFLOW};
 use crate::settings::Settings;
 use crate::totals::Totals;
 use std::{fmt, io};
@@ -22,6 +24,8 @@ pub struct Session<R, M = R> {
     asked: Option<Ask>,
     /// A report of what is asked that was answered 21: it was read or written, and is not counted.
     uncounted: Option<Report>,
+    /// When the last push was to start.
+    moment: Moment,
     /// Whether reads of a link are gathered.
     pub(crate) gathers: bool,
     rx: R,
@@ -56,13 +60,13 @@ impl<R: AsMut<[u8]>, M: AsMut<[u8]>> Session<R, M> {
     }
 
     /// The same with other settings than the published ones, which the session keeps as they are now. Behind 1 and 2, 22 or 23
-    /// where their ids are no table.
+    /// where their ids are no table, then 24 where their hours are none.
     pub fn open_with(settings: &Settings, banner: &[u8], mut rx: R, mut msg: M) -> Result<Self, Error> {
         let mut record = [0; RECORD];
         match raw::open(&mut record, settings.as_bytes(), banner, rx.as_mut().len(), msg.as_mut().len()) {
             0 => {
-                let (asked, uncounted, gathers) = (None, None, true);
-                Ok(Self { record, reply: [0; REPLY], told: 0, asked, uncounted, gathers, rx, msg })
+                let (asked, uncounted, moment, gathers) = (None, None, Moment::FIRST, true);
+                Ok(Self { record, reply: [0; REPLY], told: 0, asked, uncounted, moment, gathers, rx, msg })
             }
             number => Err(settings.refused(number)),
         }
@@ -73,7 +77,7 @@ impl<R: AsMut<[u8]>, M: AsMut<[u8]>> Session<R, M> {
         (self.rx, self.msg)
     }
 
-    /// Starts a call and takes its first step. A refused call (3 to 10) changes nothing.
+    /// Starts a call and takes its first step. A refused call (3 to 10, or 25) changes nothing.
     ///
     /// ```
     /// use yuglasno::{Answer, Call, Report, Session, Step};
@@ -167,7 +171,8 @@ impl<R: AsMut<[u8]>, M: AsMut<[u8]>> Session<R, M> {
     pub(crate) fn begin(&mut self, call: &Call<'_>) -> Reply {
         let (number, a, b) = call.numbers();
         let (rx, msg) = (self.rx.as_mut(), self.msg.as_mut());
-        let told = raw::start(&mut self.record, rx, msg, call.lent(), number, a, b, &mut self.reply);
+        self.moment = call.moment();
+        let told = raw::start(&mut self.record, rx, msg, call.lent(), number, a, b, self.moment.0, &mut self.reply);
         self.noted(told)
     }
 
@@ -242,8 +247,21 @@ impl<R: AsMut<[u8]>, M: AsMut<[u8]>> Session<R, M> {
             0 => Ok(answer(&self.reply, &self.rx.as_mut()[part(&self.reply, 1).range()])),
             14 => Err(Error::told(number, &self.reply, &self.msg.as_mut()[part(&self.reply, 1).range()], fault)),
             OVERFLOW => Err(Error::Overflow(self.totals())),
+            OUTSIDE => Err(self.outside()),
             _ => Err(Error::told(number, &self.reply, &[], fault)),
         }
+    }
+}
+
+impl<R, M> Session<R, M> {
+    /// The hours that the session was opened with; `None` where every moment will do for a push.
+    pub fn hours(&self) -> Option<Hours> {
+        Hours::of(self.record[HOURS_IN_RECORD..].try_into().expect("the record's last bytes"))
+    }
+
+    fn outside(&self) -> Error {
+        let outside = |hours| Error::OutsideHours(Outside { moment: self.moment, hours });
+        self.hours().map_or(Error::Other(OUTSIDE), outside)
     }
 }
 

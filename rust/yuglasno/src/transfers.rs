@@ -5,6 +5,7 @@ use crate::call::Call;
 use crate::error::Error;
 use crate::index::Index;
 use crate::link::Link;
+use crate::moment::Moment;
 use crate::numbers::{FileMode, SyncFlags};
 use crate::runs::Ended;
 use crate::session::Session;
@@ -101,14 +102,15 @@ impl<R: AsMut<[u8]>, M: AsMut<[u8]>> Session<R, M> {
         self.outcome(ended).map(|_| bytes).map_err(Failure::Session)
     }
 
-    /// Pushes what a reader gives, in full DATA messages and the rest in a last one, and says how many bytes it had.
+    /// Pushes what a reader gives, in full DATA messages and the rest in a last one, and says how many bytes it had. `moment` is when it
+    /// starts: where the session has hours that don't let it, 25, and nothing is read or written.
     ///
     /// ```
-    /// use yuglasno::{panel::Panel, FileMode, Session};
+    /// use yuglasno::{panel::Panel, FileMode, Moment, Session};
     /// let mut link = Panel::with_jobs();
     /// let mut session = Session::open(Panel::BANNER, [0; 512], [0; 512]).unwrap();
-    /// let mut job = &b"SPH -2.25"[..];
-    /// assert_eq!(session.push(&mut link, "/jobs/new.job", FileMode(0o100644), 5, &mut job).unwrap(), 9);
+    /// let (mut job, now) = (&b"SPH -2.25"[..], Moment::now().unwrap());
+    /// assert_eq!(session.push(&mut link, "/jobs/new.job", FileMode(0o100644), 5, now, &mut job).unwrap(), 9);
     /// assert_eq!(session.stat(&mut link, "/jobs/new.job").unwrap().size, 9);
     /// ```
     pub fn push(
@@ -117,10 +119,12 @@ impl<R: AsMut<[u8]>, M: AsMut<[u8]>> Session<R, M> {
         path: impl AsRef<[u8]>,
         mode: FileMode,
         mtime: u32,
+        moment: Moment,
         file: &mut (impl Read + ?Sized),
     ) -> Result<u64, Failure> {
         let path = path.as_ref();
-        let mut ended = self.either(link, &Call::SendV2(path, mode, SyncFlags::NONE), &Call::Send(path, mode)).0;
+        let v2 = Call::SendV2(path, mode, SyncFlags::NONE, moment);
+        let mut ended = self.either(link, &v2, &Call::Send(path, mode, moment)).0;
         let mut data = [0; DATA_MOST];
         let mut bytes = 0;
         while ended.number == 0 {

@@ -1,5 +1,5 @@
 //! Which features a session takes from a banner, by what it answers to the calls that need them.
-use yuglasno::{Call, Error, Feature, FileMode, Session, Step, SyncFlags};
+use yuglasno::{Call, Error, Feature, FileMode, Moment, Session, Step, SyncFlags};
 
 /// The names of the features 1 to 7, as the crate has them.
 fn names() -> [&'static str; 7] {
@@ -27,7 +27,7 @@ fn had(banner: &str) -> Vec<u32> {
         (&with_third, pull(SyncFlags::BROTLI)),
         (&with_third, pull(SyncFlags::LZ4)),
         (&with_third, pull(SyncFlags::ZSTD)),
-        (&with_third, Call::SendV2(b"/a", FileMode(0), SyncFlags::DRY_RUN)),
+        (&with_third, Call::SendV2(b"/a", FileMode(0), SyncFlags::DRY_RUN, Moment::FIRST)),
     ];
     let present = |number: u32, banner: &str, call: &Call| match missing(banner, call) {
         0 => true,

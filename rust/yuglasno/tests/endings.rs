@@ -3,7 +3,7 @@
 mod common;
 use common::*;
 use std::io::Read;
-use yuglasno::{Answer, Call, Error, FileMode, Session};
+use yuglasno::{Answer, Call, Error, FileMode, Moment, Session};
 
 const ALL: &[u8] = b"features=stat_v2,ls_v2,sendrecv_v2";
 
@@ -140,6 +140,7 @@ fn a_transfer_that_breaks_off() {
     }
     let mut link = Script::new(b"", 1, End::Closed);
     let mut session = session(100);
-    let failure = session.push(&mut link, "/a", FileMode(0), 0, &mut std::io::repeat(7).take(9)).unwrap_err();
+    let failure =
+        session.push(&mut link, "/a", FileMode(0), 0, Moment::FIRST, &mut std::io::repeat(7).take(9)).unwrap_err();
     assert_eq!(failure.number(), Some(12));
 }

@@ -3,7 +3,7 @@ mod common;
 use common::*;
 use std::io::{self, Read, Write};
 use std::os::unix::net::UnixStream;
-use yuglasno::{code_of, Call, Error, Fault, FileMode, Link, Pair, Session, SyncFlags};
+use yuglasno::{code_of, Call, Error, Fault, FileMode, Link, Moment, Pair, Session, SyncFlags};
 
 const ALL: &[u8] = b"features=stat_v2,ls_v2,sendrecv_v2";
 
@@ -18,8 +18,12 @@ fn told(call: Call, incoming: &[u8], broken: (usize, End)) -> (String, Script) {
 #[test]
 fn a_push_write_that_finds_the_channel_closed() {
     let mode = FileMode(33188);
-    let pushes =
-        [Call::Send(b"/j", mode), Call::SendV2(b"/j", mode, SyncFlags::NONE), Call::Data(b"x"), Call::SendDone(5)];
+    let pushes = [
+        Call::Send(b"/j", mode, Moment::FIRST),
+        Call::SendV2(b"/j", mode, SyncFlags::NONE, Moment::FIRST),
+        Call::Data(b"x"),
+        Call::SendDone(5),
+    ];
     for call in pushes {
         let (answer, link) = told(call, &with(b"FAIL", b"full"), (0, End::Closed));
         assert_eq!(answer, "Err(\"14: the panel failed: full\")", "{call:?}");

@@ -5,7 +5,8 @@ use common::letters::*;
 use common::{with, words, End, Script};
 use yuglasno::panel::Panel;
 use yuglasno::{
-    raw, Answer, Call, Error, FileMode, Ids, Report, Session, Settings, Step, SyncFlags, CAPACITY, PUBLISHED_IDS,
+    raw, Answer, Call, Error, FileMode, Ids, Moment, Report, Session, Settings, Step, SyncFlags, CAPACITY,
+    PUBLISHED_IDS,
 };
 
 const MODE: FileMode = FileMode(0o100_644);
@@ -50,8 +51,8 @@ fn what_is_written() {
             (Call::ListV2(b"/a"), with(&id("LIS2"), b"/a")),
             (Call::Recv(b"/a"), with(&id("RECV"), b"/a")),
             (Call::RecvV2(b"/a", SyncFlags::NONE), v2("RCV2", &[0])),
-            (Call::Send(b"/a", MODE), with(&id("SEND"), b"/a,33188")),
-            (Call::SendV2(b"/a", MODE, SyncFlags::DRY_RUN), v2("SND2", &[33188, 0x8000_0000])),
+            (Call::Send(b"/a", MODE, Moment::FIRST), with(&id("SEND"), b"/a,33188")),
+            (Call::SendV2(b"/a", MODE, SyncFlags::DRY_RUN, Moment::FIRST), v2("SND2", &[33188, 0x8000_0000])),
             (Call::Data(b"heights"), with(&id("DATA"), b"heights")),
             (Call::SendDone(1998), words(&id("DONE"), &[1998])),
             (Call::Quit, words(&id("QUIT"), &[0])),
@@ -91,7 +92,7 @@ fn transfers(session: &mut Session<Vec<u8>>, panel: &mut Panel) {
         assert!(file == panel.file(path).unwrap(), "{path}");
     }
     let data: Vec<u8> = (0..70_000_usize).map(|i| (i * i / 7) as u8).collect();
-    session.push(panel, "/jobs/new.job", MODE, 5, &mut &data[..]).unwrap();
+    session.push(panel, "/jobs/new.job", MODE, 5, Moment::FIRST, &mut &data[..]).unwrap();
     assert!(panel.file("/jobs/new.job").unwrap() == data);
     let details = session.details(panel, "/jobs/new.job").unwrap();
     assert_eq!((details.mode(), details.size(), details.mtime()), (MODE, 70_000, 5));
@@ -103,7 +104,7 @@ fn transfers(session: &mut Session<Vec<u8>>, panel: &mut Panel) {
 
 /// A FAIL under the table's own id, which ends the panel.
 fn refused_by_the_panel(session: &mut Session<Vec<u8>>, panel: &mut Panel) {
-    let failure = session.push(panel, "/jobs", MODE, 5, &mut &b"x"[..]).unwrap_err();
+    let failure = session.push(panel, "/jobs", MODE, 5, Moment::FIRST, &mut &b"x"[..]).unwrap_err();
     assert_eq!(failure.to_string(), "14: the panel failed: couldn't create file: Is a directory");
 }
 
@@ -118,7 +119,9 @@ fn two_tables() {
                 let failure = session(&ours, banner).pull(&mut panel, TORIC, &mut file).unwrap_err();
                 assert!(failure.number() == Some(15) && file.is_empty(), "{failure}");
                 let mut panel = Panel::with_jobs().with_ids(theirs).cut(cut);
-                let failure = session(&ours, banner).push(&mut panel, "/new", MODE, 5, &mut &b"x"[..]).unwrap_err();
+                let failure = session(&ours, banner)
+                    .push(&mut panel, "/new", MODE, 5, Moment::FIRST, &mut &b"x"[..])
+                    .unwrap_err();
                 assert!(failure.number() == Some(12) && panel.file("/new").is_none(), "{failure}");
             }
         }
@@ -216,6 +219,6 @@ fn settings_altered_after_an_opening() {
     assert_eq!(raw::open(&mut rec, &settings, b"", rx.len(), msg.len()), 0);
     settings.fill(0xEE);
     const WRITE_RX: u32 = 2;
-    assert_eq!(raw::start(&mut rec, &mut rx, &mut msg, b"/a", 1, 0, 0, &mut out), WRITE_RX);
+    assert_eq!(raw::start(&mut rec, &mut rx, &mut msg, b"/a", 1, 0, 0, 0, &mut out), WRITE_RX);
     assert!(rx.windows(10).any(|piece| piece == b"stat\x02\0\0\0/a"));
 }

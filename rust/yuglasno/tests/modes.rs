@@ -5,7 +5,7 @@ use common::letters::{id, tables};
 use common::{with, words, End, Script};
 use std::io::{Read, Write};
 use yuglasno::panel::Panel;
-use yuglasno::{Call, FileMode, Ids, Session, PATH_MOST, PUBLISHED_IDS};
+use yuglasno::{Call, FileMode, Ids, Moment, Session, PATH_MOST, PUBLISHED_IDS};
 
 const DECIMAL: [(&str, u32); 8] = [
     ("0", 0),
@@ -173,7 +173,7 @@ fn the_host_writes_decimal() {
     let written = |mode| {
         let mut link = Script::new(b"", 1, End::Closed);
         let mut session = Session::open(b"", [0; 40], [0; 40]).unwrap();
-        session.call(&mut link, &Call::Send(b"/a", FileMode(mode))).unwrap();
+        session.call(&mut link, &Call::Send(b"/a", FileMode(mode), Moment::FIRST)).unwrap();
         link.written()
     };
     for (text, mode) in DECIMAL {

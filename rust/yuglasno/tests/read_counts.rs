@@ -3,7 +3,7 @@
 mod common;
 use common::*;
 use std::collections::BTreeSet;
-use yuglasno::{raw, Answer, Call, Error, Fault, FileMode, Link, Session, Settings};
+use yuglasno::{raw, Answer, Call, Error, Fault, FileMode, Link, Moment, Session, Settings};
 
 const ALL: &[u8] = b"features=stat_v2,ls_v2,sendrecv_v2";
 const STAT: Call<'static> = Call::Stat(b"/a");
@@ -114,7 +114,7 @@ fn faults() {
 fn a_write_that_finds_the_channel_closed() {
     let (mut session, mut link) = (session(64), InReads::of(&with(b"FAIL", b"no"), vec![5, 5], End::Closed));
     link.script.broken = Some((1, End::Closed));
-    let push = Call::Send(b"/a", FileMode(33188));
+    let push = Call::Send(b"/a", FileMode(33188), Moment::FIRST);
     assert_eq!(made(&mut session, &mut link, &push), ("done".to_string(), 0, 0));
     assert_eq!(made(&mut session, &mut link, &Call::Data(b"x")), ("14".to_string(), 2, 10));
 }
@@ -145,7 +145,7 @@ const RECV_NEXT: u32 = 14;
 type Crossing = fn(&mut [u8], &mut [u8], &mut [u8], &mut [u8]) -> u32;
 
 const REFUSED: [(u32, Crossing); 7] = [
-    (4, |rec, rx, msg, out| raw::start(rec, rx, msg, b"", QUIT, 0, 0, out)),
+    (4, |rec, rx, msg, out| raw::start(rec, rx, msg, b"", QUIT, 0, 0, 0, out)),
     (3, |rec, rx, msg, out| raw::read(rec, rx, msg, b"/a", 1, out)),
     (3, |rec, rx, msg, out| raw::fault(rec, &mut rx[1..], msg, b"", 0, 0, out)),
     (3, |_, rx, msg, out| raw::read(&mut [FILL; raw::RECORD], rx, msg, b"", 1, out)),
@@ -159,7 +159,7 @@ const REFUSED: [(u32, Crossing); 7] = [
 fn refusals_beside_a_pending_call() {
     let (mut rec, mut rx, mut msg, mut out) = ([0; raw::RECORD], [0; 16], [0; 16], [FILL; raw::REPLY]);
     assert_eq!(raw::open(&mut rec, Settings::published().as_bytes(), b"", rx.len(), msg.len()), 0);
-    assert_eq!(raw::start(&mut rec, &mut rx, &mut msg, b"", RECV_NEXT, 0, 0, &mut out), READ);
+    assert_eq!(raw::start(&mut rec, &mut rx, &mut msg, b"", RECV_NEXT, 0, 0, 0, &mut out), READ);
     assert_eq!(raw::read(&mut rec, &mut rx, &mut msg, b"", 3, &mut out), READ);
     assert_eq!((raw::reads(&rec), &out[AT..]), (1, &[FILL; 8][..]));
     for (number, crossing) in REFUSED {
@@ -171,7 +171,7 @@ fn refusals_beside_a_pending_call() {
     assert_eq!(raw::read(&mut rec, &mut rx, &mut msg, b"", 5, &mut out), READ);
     assert_eq!(raw::read(&mut rec, &mut rx, &mut msg, b"", 1, &mut out), 0, "the chunk is told");
     assert_eq!((raw::reads(&rec), out[AT]), (3, 3));
-    assert_eq!(raw::start(&mut rec, &mut rx, &mut msg, b"", RECV_NEXT, 0, 0, &mut out), READ);
+    assert_eq!(raw::start(&mut rec, &mut rx, &mut msg, b"", RECV_NEXT, 0, 0, 0, &mut out), READ);
     assert_eq!((raw::reads(&rec), out[AT]), (0, 3), "a call begins with none, and a reply that asks leaves them alone");
 }
 
@@ -237,7 +237,7 @@ fn calls_that_are_over() {
     session.details(&mut link, "/a").unwrap();
     session.entries(&mut link, "/a", |_, _| ()).unwrap();
     session.pull(&mut link, "/a", &mut Vec::new()).unwrap();
-    session.push(&mut link, "/a\n", FileMode(33188), 5, &mut &b"y"[..]).unwrap();
+    session.push(&mut link, "/a\n", FileMode(33188), 5, Moment::FIRST, &mut &b"y"[..]).unwrap();
     session.quit(&mut link).unwrap();
     let expected = [
         ("stat_v2 /a", 72),

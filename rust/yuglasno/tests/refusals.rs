@@ -2,7 +2,8 @@
 mod common;
 use common::*;
 use yuglasno::{
-    raw, Answer, Call, Error, Fault, Feature, FileMode, Link, Report, Session, Settings, Step, SyncFlags, PATH_MOST,
+    raw, Answer, Call, Error, Fault, Feature, FileMode, Link, Moment, Report, Session, Settings, Step, SyncFlags,
+    PATH_MOST,
 };
 
 fn number(step: Step) -> u32 {
@@ -76,19 +77,23 @@ fn paths_flags_and_features() {
         (b"", Call::RecvV2(&long_with_nul, SyncFlags(3)), Error::NulInPath),
         (b"", Call::List(b"/a\0b"), Error::NulInPath),
         (b"", Call::ListV2(b"\0"), Error::NulInPath),
-        (b"", Call::Send(b"\0", mode), Error::NulInPath),
-        (b"", Call::SendV2(b"\0", mode, SyncFlags(3)), Error::NulInPath),
+        (b"", Call::Send(b"\0", mode, Moment::FIRST), Error::NulInPath),
+        (b"", Call::SendV2(b"\0", mode, SyncFlags(3), Moment::FIRST), Error::NulInPath),
         (b"", Call::RecvV2(b"/a", SyncFlags(3)), Error::Flags),
         (V2, Call::RecvV2(b"/a", SyncFlags::DRY_RUN), Error::Flags),
-        (V2, Call::SendV2(b"/a", mode, ODD), Error::Flags),
-        (b"", Call::SendV2(b"/a", mode, ODD), Error::Flags),
+        (V2, Call::SendV2(b"/a", mode, ODD, Moment::FIRST), Error::Flags),
+        (b"", Call::SendV2(b"/a", mode, ODD, Moment::FIRST), Error::Flags),
         (b"", Call::StatV2(b"/a"), Error::Missing(Feature::StatV2)),
         (b"", Call::ListV2(b"/a"), Error::Missing(Feature::LsV2)),
         (b"", Call::RecvV2(b"/a", SyncFlags::LZ4), Error::Missing(Feature::SendrecvV2)),
         (b"features=a;features=sendrecv_v2", Call::RecvV2(b"", SyncFlags::NONE), Error::Missing(Feature::SendrecvV2)),
         (V2, Call::RecvV2(b"/a", SyncFlags::BROTLI), Error::Missing(Feature::Brotli)),
         (V2, Call::RecvV2(b"/a", SyncFlags::ZSTD), Error::Missing(Feature::Zstd)),
-        (V2, Call::SendV2(b"/a", mode, SyncFlags::LZ4 | SyncFlags::DRY_RUN), Error::Missing(Feature::DryRunSend)),
+        (
+            V2,
+            Call::SendV2(b"/a", mode, SyncFlags::LZ4 | SyncFlags::DRY_RUN, Moment::FIRST),
+            Error::Missing(Feature::DryRunSend),
+        ),
     ];
     for (banner, call, expected) in cases {
         let mut link = Script::new(&stat(), 1, End::Closed);
@@ -114,8 +119,8 @@ fn with_path(path: &[u8]) -> [(Call<'_>, Vec<u8>); 8] {
         (Call::ListV2(path), with(b"LIS2", path)),
         (Call::Recv(path), with(b"RECV", path)),
         (Call::RecvV2(path, SyncFlags::ZSTD), v2(b"RCV2", &[4])),
-        (Call::Send(path, mode), with(b"SEND", &[path, b",4294967295"].concat())),
-        (Call::SendV2(path, mode, SyncFlags::LZ4), v2(b"SND2", &[u32::MAX, 2])),
+        (Call::Send(path, mode, Moment::FIRST), with(b"SEND", &[path, b",4294967295"].concat())),
+        (Call::SendV2(path, mode, SyncFlags::LZ4, Moment::FIRST), v2(b"SND2", &[u32::MAX, 2])),
     ]
 }
 
@@ -160,7 +165,7 @@ fn a_nul_in_a_path_of_any_length() {
 /// The answers to each call that has this path, and to transfers with flags that are refused besides; none writes a byte, and the session
 /// goes on after each.
 fn refusals_of(path: &[u8], banner: &[u8], capacity: usize) -> [u32; 10] {
-    let misflagged = [Call::RecvV2(path, SyncFlags(3)), Call::SendV2(path, FileMode(0), SyncFlags(8))];
+    let misflagged = [Call::RecvV2(path, SyncFlags(3)), Call::SendV2(path, FileMode(0), SyncFlags(8), Moment::FIRST)];
     let calls = with_path(path).into_iter().map(|(call, _)| call).chain(misflagged);
     let mut session = Session::open(banner, vec![0; capacity], vec![0; capacity]).unwrap();
     let told: Vec<u32> = calls
@@ -187,7 +192,7 @@ fn a_longer_path_that_is_pending() {
     const LONG: usize = 70_000;
     let path = vec![b'p'; LONG];
     assert_eq!(raw::open(&mut rec, Settings::published().as_bytes(), b"", rx.len(), msg.len()), 0);
-    let told = raw::start(&mut rec, &mut rx, &mut msg, &path[..PATH_MOST], 1, 0, 0, &mut out);
+    let told = raw::start(&mut rec, &mut rx, &mut msg, &path[..PATH_MOST], 1, 0, 0, 0, &mut out);
     assert_eq!(told, WRITE_BYTES, "the header of a message in pieces");
     // as an older library, with a higher limit, left it
     rec[8 * LENT..8 * LENT + 8].copy_from_slice(&LONG.to_le_bytes());
@@ -198,7 +203,7 @@ fn a_longer_path_that_is_pending() {
     assert_eq!(raw::read(&mut rec, &mut rx, &mut msg, &path, 15, &mut out), READ);
     rx[15] = stat()[15];
     assert_eq!(raw::read(&mut rec, &mut rx, &mut msg, &path, 1, &mut out), 0, "the stat is told");
-    let next = raw::start(&mut rec, &mut rx, &mut msg, &path, 1, 0, 0, &mut out);
+    let next = raw::start(&mut rec, &mut rx, &mut msg, &path, 1, 0, 0, 0, &mut out);
     assert_eq!(next, 7 << 8, "the next call meets the limit");
 }
 

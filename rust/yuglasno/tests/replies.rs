@@ -2,7 +2,7 @@
 //! larger ones.
 mod common;
 use common::*;
-use yuglasno::{Answer, Call, Details, FileMode, Session, Stat, StatV2, SyncFlags, CAPACITY};
+use yuglasno::{Answer, Call, Details, FileMode, Moment, Session, Stat, StatV2, SyncFlags, CAPACITY};
 
 const ALL: &[u8] = b"device::features=stat_v2,ls_v2,sendrecv_v2,sendrecv_v2_zstd,sendrecv_v2_dry_run_send";
 const STAT: Stat = Stat { mode: FileMode(33188), size: 1998, mtime: 5 };
@@ -91,9 +91,9 @@ fn pushes() {
     let flags = SyncFlags::ZSTD | SyncFlags::DRY_RUN;
     let snd2 = b"SND2\x02\0\0\0/jSND2\xA4\x81\0\0\x04\0\0\x80";
     let start: [(Call, &[u8], Answer); 3] = [
-        (Call::Send(b"/j", FileMode(33188)), b"SEND\x08\0\0\0/j,33188", Answer::Done),
-        (Call::Send(b"/j", FileMode(0)), b"SEND\x04\0\0\0/j,0", Answer::Done),
-        (Call::SendV2(b"/j", FileMode(33188), flags), snd2, Answer::Done),
+        (Call::Send(b"/j", FileMode(33188), Moment::FIRST), b"SEND\x08\0\0\0/j,33188", Answer::Done),
+        (Call::Send(b"/j", FileMode(0), Moment::FIRST), b"SEND\x04\0\0\0/j,0", Answer::Done),
+        (Call::SendV2(b"/j", FileMode(33188), flags, Moment::FIRST), snd2, Answer::Done),
     ];
     for start in start {
         let calls = [
@@ -122,8 +122,8 @@ fn data_in_messages_of_65536() {
 fn pieces_where_the_message_does_not_fit() {
     let mut link = Script::new(b"", 1, End::Closed);
     let mut session = Session::open(ALL, [0; 8], [0; 8]).unwrap();
-    session.send(&mut link, "/job", FileMode(33188)).unwrap();
-    session.send_v2(&mut link, "/job", FileMode(1), SyncFlags::NONE).unwrap();
+    session.send(&mut link, "/job", FileMode(33188), Moment::FIRST).unwrap();
+    session.send_v2(&mut link, "/job", FileMode(1), SyncFlags::NONE, Moment::FIRST).unwrap();
     let expected: [&[u8]; 9] =
         [b"SEND\x0A\0\0\0", b"/job", b",", b"33188", b"SND2\x04\0\0\0", b"/job", b"SND2", b"\x01\0\0\0", b"\0\0\0\0"];
     assert_eq!(link.pieces, expected);

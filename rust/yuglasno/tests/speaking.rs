@@ -3,8 +3,8 @@ mod common;
 use common::letters::{id, loaded, tables};
 use common::{entry, entry_v2, listing_end, stat, v2, with, words, End, Script};
 use yuglasno::{
-    Answer, Call, Entry, EntryV2, Error, FileMode, PanelReply, Session, Settings, Stat, StatV2, SyncFlags, DATA_MOST,
-    PATH_MOST,
+    Answer, Call, Entry, EntryV2, Error, FileMode, Moment, PanelReply, Session, Settings, Stat, StatV2, SyncFlags,
+    DATA_MOST, PATH_MOST,
 };
 
 const STAT: Stat = Stat { mode: FileMode(33188), size: 1998, mtime: 5 };
@@ -148,8 +148,8 @@ fn a_call_is_heard_as_it_was_made() {
         Call::ListV2(b"/\xFF"),
         Call::Recv(b"/a"),
         Call::RecvV2(b"/a", SyncFlags::ZSTD),
-        Call::Send(b"/a,b", FileMode(u32::MAX)),
-        Call::SendV2(&path, FileMode(33188), SyncFlags::BROTLI | SyncFlags::DRY_RUN),
+        Call::Send(b"/a,b", FileMode(u32::MAX), Moment::FIRST),
+        Call::SendV2(&path, FileMode(33188), SyncFlags::BROTLI | SyncFlags::DRY_RUN, Moment::FIRST),
         Call::Data(b"\0heights"),
         Call::SendDone(u32::MAX),
         Call::Quit,

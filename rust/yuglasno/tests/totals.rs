@@ -1,7 +1,7 @@
 //! `Session::totals` beside the link's own counts: however replies are cut, where a write fails, while a call is pending and after quit.
 mod common;
 use common::*;
-use yuglasno::{Call, FileMode, Report, Session, Step, Totals};
+use yuglasno::{Call, FileMode, Moment, Report, Session, Step, Totals};
 
 const ALL: &[u8] = b"features=stat_v2,ls_v2,sendrecv_v2";
 
@@ -24,7 +24,7 @@ fn calls_over_a_link() {
         assert_eq!((session.totals().consumed, session.totals().written), (72, 10), "cut {cut}");
         assert_eq!(session.entries(&mut link, "/a", |_, _| ()).unwrap(), 2);
         assert_eq!(session.pull(&mut link, "/a", &mut Vec::new()).unwrap(), 300);
-        session.push(&mut link, "/a", FileMode(33188), 5, &mut &[1; 1_000][..]).unwrap();
+        session.push(&mut link, "/a", FileMode(33188), 5, Moment::FIRST, &mut &[1; 1_000][..]).unwrap();
         assert_eq!(
             session.totals().held() as usize,
             link.read - (incoming.len() - 908),

@@ -5,7 +5,7 @@ use std::io::{Read, Write};
 use std::os::unix::net::UnixStream;
 use std::thread;
 use yuglasno::panel::Panel;
-use yuglasno::{Details, FileMode, Session, CAPACITY, PATH_MOST};
+use yuglasno::{Details, FileMode, Moment, Session, CAPACITY, PATH_MOST};
 
 const MODE: FileMode = FileMode(0o100_644);
 const BANNERS: [&[u8]; 2] = [b"", Panel::BANNER];
@@ -47,7 +47,7 @@ fn pushes_of_every_length() {
             for length in lengths.clone() {
                 let file = heights(length);
                 let path = format!("/jobs/of {length}, bytes");
-                let bytes = session.push(&mut panel, &path, MODE, 5, &mut &file[..]).unwrap();
+                let bytes = session.push(&mut panel, &path, MODE, 5, Moment::FIRST, &mut &file[..]).unwrap();
                 assert_eq!(bytes, length as u64);
                 assert!(panel.file(&path).unwrap() == file, "{length} bytes at capacity {capacity}");
             }
@@ -96,7 +96,7 @@ fn over_a_socket_at_every_cut() {
             let mut session = session(banner, CAPACITY);
             let mut file = Vec::new();
             session.pull(&mut near, "/jobs/sphere.job", &mut file).unwrap();
-            session.push(&mut near, "/new", MODE, 5, &mut &heights(70_000)[..]).unwrap();
+            session.push(&mut near, "/new", MODE, 5, Moment::FIRST, &mut &heights(70_000)[..]).unwrap();
             assert_eq!(session.details(&mut near, "/new").unwrap().size(), 70_000);
             session.quit(&mut near).unwrap();
             let (sphere, new) = served.join().unwrap();
@@ -111,7 +111,7 @@ fn the_panels_failures() {
         for cut in cuts() {
             let mut panel = Panel::with_jobs().cut(cut);
             let mut one = session(banner, CAPACITY);
-            let failure = one.push(&mut panel, "/jobs", MODE, 5, &mut &heights(70_000)[..]).unwrap_err();
+            let failure = one.push(&mut panel, "/jobs", MODE, 5, Moment::FIRST, &mut &heights(70_000)[..]).unwrap_err();
             assert_eq!(failure.to_string(), "14: the panel failed: couldn't create file: Is a directory");
             assert_eq!(one.details(&mut panel, "/jobs").unwrap_err().number(), 12, "a FAIL ends the service");
             one.quit(&mut panel).unwrap();
@@ -132,12 +132,12 @@ fn the_longest_path() {
         let mut panel = Panel::with_jobs().cut(7);
         let mut session = session(banner, 100);
         for mode in [MODE, FileMode(u32::MAX)] {
-            session.push(&mut panel, &path, mode, 5, &mut &b"heights"[..]).unwrap();
+            session.push(&mut panel, &path, mode, 5, Moment::FIRST, &mut &b"heights"[..]).unwrap();
             let mut pulled = Vec::new();
             session.pull(&mut panel, &path, &mut pulled).unwrap();
             assert_eq!((pulled, session.details(&mut panel, &path).unwrap().mode()), (b"heights".to_vec(), mode));
         }
-        let failure = session.push(&mut panel, format!("{path}p"), MODE, 5, &mut &b"x"[..]).unwrap_err();
+        let failure = session.push(&mut panel, format!("{path}p"), MODE, 5, Moment::FIRST, &mut &b"x"[..]).unwrap_err();
         assert_eq!(failure.to_string(), "7: the path is over 1,024 bytes");
         assert!(session.details(&mut panel, &path).is_ok(), "the session goes on");
     }
@@ -202,7 +202,8 @@ fn a_file_on_this_side_that_fails() {
         }
     }
     let mut link = Script::new(b"", 1, End::Closed);
-    let failure = session(b"", 100).push(&mut link, "/a", MODE, 5, &mut Unreadable).unwrap_err().number();
+    let failure =
+        session(b"", 100).push(&mut link, "/a", MODE, 5, Moment::FIRST, &mut Unreadable).unwrap_err().number();
     assert_eq!(failure, None);
     assert_eq!(link.written(), b"SEND\x08\0\0\0/a,33188", "no DONE: the panel has no whole file");
 }
@@ -214,14 +215,14 @@ fn a_folder_as_a_panel() {
     std::fs::create_dir_all(&root).unwrap();
     let mut panel = Panel::with_folder(&root).cut(5);
     let mut session = session(Panel::BANNER, CAPACITY);
-    session.push(&mut panel, "/a/b.job", FileMode(0o100_600), 1998, &mut &heights(70_000)[..]).unwrap();
+    session.push(&mut panel, "/a/b.job", FileMode(0o100_600), 1998, Moment::FIRST, &mut &heights(70_000)[..]).unwrap();
     assert!(std::fs::read(root.join("a/b.job")).unwrap() == heights(70_000));
     let stat = session.stat_v2(&mut panel, "/a/b.job").unwrap();
     assert_eq!((stat.mode.0, stat.size, stat.mtime), (0o100_600, 70_000, 1998));
     let mut names = Vec::new();
     session.entries(&mut panel, "/a", |name, _| names.push(name.to_vec())).unwrap();
     assert_eq!(names, [&b"."[..], b"..", b"b.job"]);
-    let failure = session.push(&mut panel, "/../out", MODE, 5, &mut &b"x"[..]).unwrap_err();
+    let failure = session.push(&mut panel, "/../out", MODE, 5, Moment::FIRST, &mut &b"x"[..]).unwrap_err();
     assert_eq!(failure.to_string(), "14: the panel failed: couldn't create file: Permission denied");
 }
 

@@ -44,8 +44,8 @@ module _ (c : tie.Else1) where
 
   inside : InBounds (now (start .args .lent)) step
   inside =
-      parts-inside .start (take size rec) (now (start .args .rx)) (now (start .args .msg)) (now (start .args .lent)) (start .args .call) (start .args .a) (start .args .b) (now (start .args .out))
-      (bytes-take size rec known) (λ i. c .before .before .before .before .slice-known2 .given i .fits) (omega arith) (omega arith) (omega arith) (omega arith)
+      parts-inside .start (take size rec) (now (start .args .rx)) (now (start .args .msg)) (now (start .args .lent)) (start .args .call) (start .args .a) (start .args .b) 0 (now (start .args .out))
+      (bytes-take size rec known) (λ i. c .before .before .before .before .slice-known2 .given i .fits) (omega arith) (omega arith) (omega arith) (omega arith) (omega arith)
 
 aggregate : tie.Need-slice-aggregate-session-start
 aggregate c = sym (length-take-le size (rec (c .before)) (omega arith))

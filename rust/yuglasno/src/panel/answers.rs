@@ -60,9 +60,11 @@ impl Panel {
             Call::List(path) => self.list(Version::V1, path),
             Call::ListV2(path) => self.list(Version::V2, path),
             Call::Recv(path) | Call::RecvV2(path, SyncFlags::NONE) => self.pull(path),
-            Call::Send(path, mode) | Call::SendV2(path, mode, SyncFlags::NONE) => self.push(path, mode, true),
-            Call::SendV2(path, mode, SyncFlags::DRY_RUN) => self.push(path, mode, false),
-            Call::RecvV2(_, flags) | Call::SendV2(_, _, flags) => self.end_with(&format!("unknown flags: {}", flags.0)),
+            Call::Send(path, mode, _) | Call::SendV2(path, mode, SyncFlags::NONE, _) => self.push(path, mode, true),
+            Call::SendV2(path, mode, SyncFlags::DRY_RUN, _) => self.push(path, mode, false),
+            Call::RecvV2(_, flags) | Call::SendV2(_, _, flags, _) => {
+                self.end_with(&format!("unknown flags: {}", flags.0))
+            }
             Call::Data(bytes) => match &mut self.push {
                 Push::Taking { data, .. } => {
                     data.extend_from_slice(bytes);

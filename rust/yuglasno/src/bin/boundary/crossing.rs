@@ -1,4 +1,5 @@
 //! One crossing of the boundary: the slices lent, the function called, and what must hold of it whatever they were.
+use crate::gate::OUTSIDE;
 use crate::lent::Lent;
 use crate::model::put;
 use crate::totals::OVERFLOW;
@@ -9,7 +10,7 @@ pub const COUNT: usize = 14;
 
 #[derive(Clone, Copy, Debug)]
 pub enum Function {
-    Start { call: u32, a: u32, b: u32 },
+    Start { call: u32, a: u32, b: u32, moment: u32 },
     Read(usize),
     Wrote,
     Fault { kind: u32, code: u32 },
@@ -29,7 +30,7 @@ impl Slices {
         let (rec, rx, msg) = (self.rec.lend(), self.rx.lend(), self.msg.lend());
         let (lent, out) = (self.lent.bytes(), self.out.lend());
         match function {
-            Function::Start { call, a, b } => raw::start(rec, rx, msg, lent, call, a, b, out),
+            Function::Start { call, a, b, moment } => raw::start(rec, rx, msg, lent, call, a, b, moment, out),
             Function::Read(count) => raw::read(rec, rx, msg, lent, count, out),
             Function::Wrote => raw::wrote(rec, rx, msg, lent, out),
             Function::Fault { kind, code } => raw::fault(rec, rx, msg, lent, kind, code, out),
@@ -55,7 +56,7 @@ impl Slices {
 
 /// Whether an answer is the caller's: nothing may have changed.
 pub fn refused(number: u32) -> bool {
-    number & 255 == 0 && matches!(number >> 8, 1..=11 | OVERFLOW)
+    number & 255 == 0 && matches!(number >> 8, 1..=11 | OVERFLOW | OUTSIDE)
 }
 
 /// What a crossing broke, if anything: `before` and `after` are the slices around it, `number` what was returned.
@@ -134,7 +135,7 @@ fn written(s: &Slices, number: u32) -> Option<usize> {
         (0, 0, 4) => (true, 48),
         (0, 0, 5) => (true, 112),
         (0, 0, 6) => (true, 24),
-        (0, 3..=9 | 11 | 12 | 17 | OVERFLOW, 7) => (s.word(1) == 0 && s.word(2) == 0, 24),
+        (0, 3..=9 | 11 | 12 | 17 | OVERFLOW | OUTSIDE, 7) => (s.word(1) == 0 && s.word(2) == 0, 24),
         (0, 10, 7) => ((1..=7).contains(&s.word(3)), 32),
         (0, 13 | 15 | 16, 7) => (small(3), 32),
         (0, 14, 7) => (s.word(1) == 0, 24),

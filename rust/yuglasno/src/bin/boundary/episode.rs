@@ -1,5 +1,7 @@
 //! A session from its opening on: steps that a host would take, and wild ones.
 use crate::crossing::{fault, refused, Function, Slices};
+use crate::gate::{self, OUTSIDE};
+use crate::hours;
 use crate::index::{self, Beside};
 use crate::lent::Lent;
 use crate::model::word;
@@ -10,7 +12,7 @@ use crate::reads::Reads;
 use crate::stream::reply;
 use crate::totals::{self, Expected, OVERFLOW};
 use crate::{Counts, ANSWERS};
-use yuglasno::raw::RECORD;
+use yuglasno::raw::{HOURS_IN_RECORD, HOURS_SIZE, RECORD};
 use yuglasno::Ids;
 
 pub struct Episode<'c> {
@@ -115,7 +117,7 @@ impl<'c> Episode<'c> {
     /// A session that was not turned away is not turned away at its next call either.
     fn kept(&mut self, number: u32) -> Result<(), String> {
         let mut copy = self.slices.clone();
-        match copy.cross(Function::Start { call: 0, a: 0, b: 0 }) >> 8 {
+        match copy.cross(Function::Start { call: 0, a: 0, b: 0, moment: 0 }) >> 8 {
             4..=6 => Ok(()),
             then => Err(format!("after {number:#x} the session's record is answered {then}")),
         }
@@ -137,7 +139,14 @@ impl<'c> Episode<'c> {
         }
         self.slices.lent = Lent::new(&mut self.random, &path);
         let b = self.random.of(&[0, 0, 0, 1, 2, 4, 3, 8, 0x8000_0000, 0x8000_0004, u32::MAX]);
-        Function::Start { call: self.call, a: self.random.number(0) as u32, b }
+        let moment = self.moment();
+        Function::Start { call: self.call, a: self.random.number(0) as u32, b, moment }
+    }
+
+    /// A moment, often one at which the record's hours begin or end.
+    fn moment(&mut self) -> u32 {
+        let hours = self.slices.rec.bytes().get(HOURS_IN_RECORD..RECORD).unwrap_or(&[0; HOURS_SIZE]).to_vec();
+        hours::moment(&mut self.random, &hours)
     }
 
     /// Bytes of the panel into the window, any bytes behind them; or the end of the channel.
@@ -192,6 +201,7 @@ impl<'c> Episode<'c> {
                 call: if self.random.one_in(4) { self.random.number(14) as u32 } else { self.random.below(16) as u32 },
                 a: self.random.number(0) as u32,
                 b: self.random.number(0x8000_0007) as u32,
+                moment: self.moment(),
             },
         }
     }
@@ -200,7 +210,7 @@ impl<'c> Episode<'c> {
     fn bent(&mut self) {
         let random = &mut self.random;
         let s = &mut self.slices;
-        match random.below(13) {
+        match random.below(14) {
             0 => s.rec = Lent::filled(random, RECORD),
             1 => {
                 let length = random.number(RECORD as u64).min(400) as usize;
@@ -219,6 +229,7 @@ impl<'c> Episode<'c> {
                 }
             }
             7..10 => totals::bent(s.rec.lend(), random),
+            10 => hours::bent(s.rec.lend(), random),
             _ => {
                 let field = if random.one_in(4) {
                     random.below(RECORD / 8)
@@ -248,6 +259,7 @@ impl<'c> Episode<'c> {
             return Err(format!("{function:?} returned {number:#x}: {fault}"));
         }
         self.counted(&before, function, number)?;
+        self.gated(&before, function, number)?;
         if self.random.one_in(8) {
             let mut again = before;
             if again.cross(function) != number || !again.same(&self.slices) {
@@ -255,6 +267,16 @@ impl<'c> Episode<'c> {
             }
         }
         Ok(number)
+    }
+
+    /// A push outside the hours is turned away, where nothing else turns it away, and all else is as without hours.
+    fn gated(&mut self, before: &Slices, function: Function, number: u32) -> Result<(), String> {
+        let Some((wanted, slices)) = gate::expected(before, function) else { return Ok(()) };
+        self.counts.outside += u64::from(number == OUTSIDE << 8);
+        match number == wanted && self.slices.same(&slices) {
+            true => Ok(()),
+            false => Err(format!("{function:?} returned {number:#x}, and by the hours {wanted:#x}, or other bytes")),
+        }
     }
 
     /// The totals and the reads after a crossing, and all else, are what they must be.

@@ -1,13 +1,17 @@
 //! The exported functions under any input: `boundary CALLS SEED`. Sessions are run with random calls and reports; between
 //! their steps, and on copies of them, the functions are called with records, buffers, paths, call numbers, flags and
-//! counts of any value. Settings and ids files are of any kind too, and so are the slots of an index, and the replies that it is handed; and
-//! what a panel says and hears. Totals and reads are of any size, many near 2^64 - 1. Every crossing is checked: see `crossing.rs`,
-//! `totals.rs`, `reads.rs`, `index.rs` and `panel_side.rs`. Exit status 1 at the first fault, and where a long run did not meet all that it
+//! counts of any value. Settings, ids files and hours files are of any kind too, and so are the slots of an index, and the
+//! replies that it is handed; and what a panel says and hears. Totals and reads are of any size, many near 2^64 - 1; moments
+//! are often at the edges of hours. Every crossing is checked: see `crossing.rs`, `totals.rs`, `reads.rs`, `hours.rs`,
+//! `gate.rs`, `index.rs` and `panel_side.rs`. Exit status 1 at the first fault, and where a long run did not meet all that it
 //! should.
 #![forbid(unsafe_code)]
 
 mod crossing;
 mod episode;
+mod gate;
+mod hours;
+mod hours_model;
 mod index;
 mod lent;
 mod model;
@@ -26,7 +30,7 @@ use std::io::{self, Write};
 use std::process::ExitCode;
 
 /// Answers have numbers below this one.
-const ANSWERS: usize = 24;
+const ANSWERS: usize = 26;
 /// What a report may be refused with where a total or the reads have no room for it.
 const OF_REPORTS: [usize; 5] = [3, 5, 6, 11, 21];
 /// A run of so many calls meets each of them.
@@ -48,6 +52,9 @@ pub struct Counts {
     pub indexed: u64,
     /// Replies spoken and requests heard.
     pub of_the_panel: u64,
+    /// Hours files, moments that may be asked for and dates; and pushes of a session outside its hours.
+    pub of_hours: u64,
+    pub outside: u64,
 }
 
 fn main() -> ExitCode {
@@ -82,6 +89,9 @@ fn unmet(counts: &Counts) -> Option<String> {
     if counts.no_room_for_reads == 0 {
         return Some("no read that only the count of reads has no room for was answered 21".into());
     }
+    if counts.outside == 0 || counts.answered[24] == 0 {
+        return Some("no push was outside its hours, or no hours were answered 24".into());
+    }
     let number = OF_REPORTS.into_iter().find(|number| counts.no_room[*number] == 0)?;
     Some(format!("no report that there is no room for was answered {number}"))
 }
@@ -103,6 +113,10 @@ fn print(counts: &Counts, seed: u64) {
     println!(
         "on records that were altered: {} calls; of an index: {} calls; of replies spoken and requests heard: {} calls",
         counts.altered, counts.indexed, counts.of_the_panel
+    );
+    println!(
+        "of hours and dates: {} calls; pushes of a session outside its hours: {}",
+        counts.of_hours, counts.outside
     );
     println!(
         "{} calls (seed {seed}): {} opened, {} refused, {} answered, {} asked for reads, {} for writes, {} for the close; \

@@ -1,11 +1,12 @@
 //! Openings, for settings, buffers and banners of any kind.
 use crate::crossing::Slices;
+use crate::hours_model::are_hours;
 use crate::lent::Lent;
 use crate::random::Random;
 use crate::tables::{self, noted, of_settings};
 use crate::totals::RECEIVED;
 use crate::Counts;
-use yuglasno::raw::{self, RECORD, REPLY, SETTINGS};
+use yuglasno::raw::{self, HOURS_IN_RECORD, HOURS_IN_SETTINGS, HOURS_SIZE, RECORD, REPLY, SETTINGS};
 use yuglasno::Ids;
 
 const NAMES: [&str; 9] = [
@@ -57,6 +58,7 @@ fn open(
         _ if rx < 8 => 1,
         _ if msg < rx => 2,
         _ if before.len() != RECORD || lent.bytes().len() != SETTINGS => 3,
+        _ if of_settings(lent.bytes()) == 0 && !are_hours(hours_in(lent.bytes())) => 24,
         _ => of_settings(lent.bytes()),
     };
     if number != expected {
@@ -66,14 +68,22 @@ fn open(
     if !guards || settings.bytes() != lent.bytes() || (number > 0 && before != rec.bytes()) {
         return Err(format!("opening for {rx} and {msg}, answered {number}, changed what it may not"));
     }
-    if number == 0 && rec.bytes()[8 * RECEIVED..].iter().any(|byte| *byte != 0) {
+    if number == 0 && rec.bytes()[8 * RECEIVED..HOURS_IN_RECORD].iter().any(|byte| *byte != 0) {
         return Err("an opening left totals that are not 0".into());
+    }
+    if number == 0 && rec.bytes()[HOURS_IN_RECORD..] != *hours_in(lent.bytes()) {
+        return Err("an opening left other hours than its settings have".into());
     }
     match number {
         0 => (counts.opened, counts.calls) = (counts.opened + 1, counts.calls + 1),
         _ => noted(counts, number),
     }
     Ok(number)
+}
+
+/// The hours of settings of their own length.
+fn hours_in(settings: &[u8]) -> &[u8] {
+    &settings[HOURS_IN_SETTINGS..HOURS_IN_SETTINGS + HOURS_SIZE]
 }
 
 fn banner(random: &mut Random) -> Vec<u8> {

@@ -1,12 +1,14 @@
-//! Settings and ids files of any kind, the two functions that write settings, and what each must come to.
+//! Settings and ids files of any kind, two of the functions that write settings, and what each must come to.
+use crate::hours;
 use crate::lent::Lent;
 use crate::random::Random;
-use crate::Counts;
-use yuglasno::raw::{self, SETTINGS};
+use crate::{Counts, ANSWERS};
+use yuglasno::raw::{self, HOURS_IN_SETTINGS, HOURS_SIZE, SETTINGS};
 use yuglasno::{Ids, PUBLISHED_IDS};
 
-/// How many bytes of settings the ids have.
-const TABLE: usize = 60;
+/// How many bytes of settings the ids have, and where the hours end.
+const TABLE: usize = HOURS_IN_SETTINGS;
+const ROOM: usize = HOURS_IN_SETTINGS + HOURS_SIZE;
 const LETTERS: std::ops::RangeInclusive<u8> = 33..=126;
 
 /// Settings that were made by the library and loaded with a few files, each crossing checked; now and then altered, or of another length.
@@ -15,12 +17,14 @@ pub fn settings(random: &mut Random, counts: &mut Counts) -> Result<Lent, String
     let mut settings = Lent::filled(random, length);
     made(counts, &mut settings)?;
     if length == SETTINGS && random.one_in(4) {
-        let room = random.bytes(SETTINGS - TABLE);
-        settings.lend()[TABLE..].copy_from_slice(&room);
+        let from = if random.one_in(4) { TABLE } else { ROOM };
+        let room = random.bytes(SETTINGS - from);
+        settings.lend()[from..].copy_from_slice(&room);
     }
     for _ in 0..random.below(4) {
         loaded(random, counts, &mut settings)?;
     }
+    hours::put_into(random, counts, &mut settings)?;
     if length > 0 && random.one_in(8) {
         let at = random.below(length);
         settings.lend()[at] = random.of(&[0, 9, 10, 32, 33, 44, 65, 126, 127, 255]);
@@ -67,7 +71,7 @@ fn loaded(random: &mut Random, counts: &mut Counts, settings: &mut Lent) -> Resu
 
 pub fn noted(counts: &mut Counts, number: u32) {
     counts.calls += 1;
-    counts.answered[number.min(23) as usize] += 1;
+    counts.answered[(number as usize).min(ANSWERS - 1)] += 1;
 }
 
 /// The ids in settings of their own length.

@@ -8,7 +8,7 @@ use std::os::unix::ffi::{OsStrExt, OsStringExt};
 use std::path::PathBuf;
 use std::time::Duration;
 use yuglasno::adb::Address;
-use yuglasno::{FileMode, Settings, CAPACITY};
+use yuglasno::{FileMode, Moment, Settings, CAPACITY};
 
 pub enum Request {
     Help,
@@ -20,9 +20,12 @@ pub struct Plan {
     pub place: Place,
     pub features: Option<Vec<u8>>,
     pub capacity: usize,
-    /// A file of ids that is to be loaded into the settings.
+    /// A file of ids that is to be loaded into the settings, and one of hours.
     pub ids: Option<PathBuf>,
+    pub hours: Option<PathBuf>,
     pub settings: Settings,
+    /// The moment that a push starts at, where it is not now.
+    pub at: Option<Moment>,
     /// What the sessions come to, where that is to be told.
     pub card: Option<Card>,
     pub command: Command,
@@ -59,16 +62,18 @@ pub enum Command {
     Push { file: PathBuf, path: Vec<u8>, mode: Option<FileMode> },
     Archive(Order),
     Verify(PathBuf),
+    Hours(PathBuf),
 }
 
 /// The commands and the words that each wants.
-const COMMANDS: [(&str, &str); 6] = [
+const COMMANDS: [(&str, &str); 7] = [
     ("stat", "PATH"),
     ("ls", "PATH"),
     ("pull", "PATH FILE"),
     ("push", "FILE PATH [MODE]"),
     ("archive", "FOLDER DIR"),
     ("verify", "DIR"),
+    ("hours", "FILE"),
 ];
 
 impl Command {
@@ -88,6 +93,8 @@ struct Given {
     features: Option<Vec<u8>>,
     capacity: Option<usize>,
     ids: Option<PathBuf>,
+    hours: Option<PathBuf>,
+    at: Option<Moment>,
     recursive: bool,
     card: bool,
     times: Times,
@@ -131,6 +138,8 @@ impl Given {
             b"--features" => self.features = Some(needed(words, "--features", "LIST")?.into_vec()),
             b"--capacity" => self.capacity = Some(capacity(words)?),
             b"--ids" => self.ids = Some(needed(words, "--ids", "FILE")?.into()),
+            b"--hours" => self.hours = Some(needed(words, "--hours", "FILE")?.into()),
+            b"--at" => self.at = Some(when(words)?),
             b"--recursive" => self.recursive = true,
             b"--card" => self.card = true,
             b"--from" => self.times.from = Some(time(words, "--from", Edge::First)?),
@@ -162,6 +171,7 @@ impl Given {
                 Ok(Command::Archive(Order { folder: bytes(folder), dir: dir.into(), deep: self.recursive }))
             }
             (b"verify", [dir]) => Ok(Command::Verify(dir.into())),
+            (b"hours", [file]) => Ok(Command::Hours(file.into())),
             _ => Err(match COMMANDS.iter().find(|(each, _)| name == *each) {
                 Some((name, wanted)) => format!("{name} wants {wanted}, and has {}", given(words)),
                 None => format!("no command {}: {} are there", name.display(), names()),
@@ -189,12 +199,25 @@ impl Given {
         if self.recursive && !matches!(command, Command::Archive(_)) {
             return Err("--recursive goes with archive".into());
         }
+        timed(&command, self.hours.is_some(), self.at.is_some())?;
         set(serials, self.serial, "--serial goes with --server")?;
         set(timeouts, self.timeout, "--timeout goes with --server and --unix")?;
         set(cuts, self.cut, "--cut goes with --panel and --folder")?;
         let (capacity, settings) = (self.capacity.unwrap_or(CAPACITY), Settings::published());
         let card = self.card.then(Card::default);
-        Ok(Plan { place, features: self.features, capacity, ids: self.ids, settings, card, command })
+        let (ids, hours, at) = (self.ids, self.hours, self.at);
+        Ok(Plan { place, features: self.features, capacity, ids, hours, settings, at, card, command })
+    }
+}
+
+/// Whether `--hours` and `--at` say anything with a command.
+fn timed(command: &Command, hours: bool, at: bool) -> Result<(), String> {
+    match command {
+        Command::Hours(_) if hours => Err("the command hours has a FILE of its own, and goes without --hours".into()),
+        Command::Hours(_) => Ok(()),
+        Command::Push { .. } if hours => Ok(()),
+        _ if at => Err("--at goes with the command hours, and with push and --hours FILE".into()),
+        _ => Ok(()),
     }
 }
 
@@ -269,6 +292,14 @@ fn capacity(words: &mut impl Iterator<Item = OsString>) -> Result<usize, String>
 fn time(words: &mut impl Iterator<Item = OsString>, option: &str, edge: Edge) -> Result<i64, String> {
     let word = text(words, option, "a time")?;
     moment(&word, edge).map_err(|why| format!("{option} wants a time, and {word:?} is {why}"))
+}
+
+/// A time that a push may start at: the first second of a day or a minute.
+fn when(words: &mut impl Iterator<Item = OsString>) -> Result<Moment, String> {
+    let seconds = time(words, "--at", Edge::First)?;
+    let outside =
+        |side| format!("--at wants a time from 1970-01-01 to {}, and {seconds} (Unix seconds) is {side}", Moment::LAST);
+    u32::try_from(seconds).map(Moment).map_err(|_| outside(if seconds < 0 { "before it" } else { "past it" }))
 }
 
 /// A time from a millisecond on.

@@ -1,11 +1,11 @@
 //! The commands.
-use crate::arguments::Command;
+use crate::arguments::{Command, Plan};
 use crate::peer::Peer;
 use crate::progress::Progress;
 use crate::say::{say, shown};
 use crate::stop::{Stop, NOT_THERE};
 use crate::target::Target;
-use crate::{by_time, check, pull, push};
+use crate::{by_time, check, hours, pull, push};
 use std::io::{self, Write};
 use yuglasno::{Details, Error, Shown};
 
@@ -18,8 +18,8 @@ pub fn target(command: &Command) -> Result<Option<Target>, Stop> {
 }
 
 /// Does what the command says. `said` is where its lines go.
-pub fn run(peer: &mut Peer<'_>, command: &Command, target: Option<&Target>, said: &mut dyn Write) -> Result<(), Stop> {
-    match command {
+pub fn run(peer: &mut Peer<'_>, plan: &Plan, target: Option<&Target>, said: &mut dyn Write) -> Result<(), Stop> {
+    match &plan.command {
         Command::Stat(path) => {
             let details = peer.details(path)?;
             numbers(said, &details).map_err(|e| Stop::output(&e))
@@ -28,14 +28,17 @@ pub fn run(peer: &mut Peer<'_>, command: &Command, target: Option<&Target>, said
         Command::List { path, which: Some(which) } => by_time::list(peer, path, *which, said),
         Command::Pull { path, .. } => pulled(peer, path, target, said),
         Command::Push { file, path, mode } => {
-            let bytes = if command.takes_stdio() {
-                push::stdin(peer, path, *mode)?
+            let moment = hours::moment(plan)?;
+            let bytes = if plan.command.takes_stdio() {
+                push::stdin(peer, path, *mode, moment)?
             } else {
-                push::file(peer, file, path, *mode)?
+                push::file(peer, file, path, *mode, moment)?
             };
             line(said, format_args!("{}: {bytes} bytes pushed to {}", shown(file), Shown(path)))
         }
-        Command::Archive(_) | Command::Verify(_) => unreachable!("they open their own panel, or none"),
+        Command::Archive(_) | Command::Verify(_) | Command::Hours(_) => {
+            unreachable!("they open their own panel, or none")
+        }
     }
 }
 

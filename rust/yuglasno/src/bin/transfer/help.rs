@@ -16,6 +16,7 @@ commands:
   archive FOLDER DIR [--recursive]  each regular file of the panel's FOLDER to DIR, unless DIR holds it already, with DIR/SHA256SUMS
                                     and DIR/DETAILS as lists; with its sub-folders
   verify DIR                        DIR read back against its lists, without a panel
+  hours FILE                        the week of an hours file, and whether a push may start now, or at --at WHEN (below)
 A FILE that is - is standard input or output. Options may stand behind the command; behind -- no word is an option.
 
 where the panel is:
@@ -29,6 +30,8 @@ where the panel is:
 options:
   --features LIST                   the panel's features, such as stat_v2,ls_v2,sendrecv_v2, where it does not say them
   --ids FILE                        the ids of the panel's messages, where they are not the published ones (below)
+  --hours FILE                      the hours in which a push may start (below)
+  --at WHEN                         the moment that a push with --hours, or the command hours, goes by; without it, the clock's
   --capacity N                      the receive buffer's length (65544 takes every DATA message)
   --card                            as the last line, the bytes that were received, consumed and written, and the most reads of a call (below)
   --timeout SECONDS                 the longest wait for a connection, a read or a write, over --server or --unix; status 13 then
@@ -63,6 +66,16 @@ four bytes from 33 to 126, no comma, and no two the same. It is read before anyt
 It must be a regular file, and - is a file of that name.
   STAT,STA2,LIST,LIS2,SEND,SND2,RECV,RCV2,DATA,DONE,OKAY,FAIL,DENT,DNT2,QUIT
   stat,sta2,list,lis2,send,snd2,recv,rcv2,data,done,okay,fail,dent,dnt2,quit
+
+An hours file has the line day,open,close and up to seven lines that end with byte 10: a day, 0 for Monday to 6 for Sunday, and the minutes of
+that day, in UTC, from which (0 to 1439) and until which (1 to 1440) a push may start. Days rise; numbers have digits alone, and none a 0 in
+front. A day without a line has no hours; the first line alone lets no push start. It is read before anything else; 24 where it is not such a
+file. It must be a regular file, and - is a file of that name. A push that is to start outside its hours is 25, with nothing of it written to
+the panel; one that has begun goes on past them. Without --hours any moment will do. WHEN is as A above, from 1970-01-01 to
+2106-02-07T06:28:15; the clock is looked at when the push starts.
+  day,open,close
+  0,420,1080
+  5,480,720
 
 exit status, which is also the number that a message begins with:
 ";

@@ -9,6 +9,7 @@ mod check;
 mod commands;
 mod folder;
 mod help;
+mod hours;
 mod ids;
 mod keep;
 mod panel;
@@ -18,6 +19,7 @@ mod progress;
 mod pull;
 mod push;
 mod say;
+mod settings_file;
 mod signals;
 mod stop;
 mod target;
@@ -42,8 +44,8 @@ fn main() -> ExitCode {
 
 /// The command, then its card, as the last line of all. The command's status is told before that of the card.
 fn carried_out(mut plan: Plan) -> u8 {
-    let ready = folder::is_there(&plan).and_then(|()| ids::loaded(&mut plan));
-    match told(ready.and_then(|()| run(&plan)).map_err(|stop| ids::hinted(stop, &plan))) {
+    let ready = folder::is_there(&plan).and_then(|()| ids::loaded(&mut plan)).and_then(|()| hours::loaded(&mut plan));
+    match told(ready.and_then(|()| run(&plan)).map_err(|stop| hours::hinted(ids::hinted(stop, &plan), &plan))) {
         0 => told(carded(&plan)),
         status => {
             let _ = carded(&plan);
@@ -87,6 +89,7 @@ fn run(plan: &Plan) -> Result<(), Stop> {
     let done = match &plan.command {
         Command::Archive(order) => archive::run(plan, order, &mut said),
         Command::Verify(dir) => archive::verify(dir, &mut said),
+        Command::Hours(file) => hours::show(file, plan.at, &mut said),
         _ => with_a_panel(plan, &mut said),
     };
     let shown = said.flush().map_err(|e| Stop::output(&e));
@@ -98,7 +101,7 @@ fn with_a_panel(plan: &Plan, said: &mut dyn Write) -> Result<(), Stop> {
     let target = commands::target(&plan.command)?;
     target.as_ref().map_or(Ok(()), |target| folder::is_spared(plan, &target.folder))?;
     let mut panel = Panel::opened(plan)?;
-    match commands::run(&mut panel.peer(), &plan.command, target.as_ref(), said) {
+    match commands::run(&mut panel.peer(), plan, target.as_ref(), said) {
         Err(stop) if stop.dropped => {
             panel.leave();
             Err(stop)

@@ -9,14 +9,20 @@ use std::io::{self, ErrorKind, Read};
 use std::os::unix::fs::MetadataExt;
 use std::path::Path;
 use std::time::SystemTime;
-use yuglasno::{Failure, FileMode, Shown};
+use yuglasno::{Failure, FileMode, Moment, Shown};
 
 /// What standard input is pushed with.
 const PLAIN: FileMode = FileMode(0o100_644);
 const REGULAR: u32 = 0o100_000;
 
 /// Pushes a file with its own permission bits, or with a mode that is given.
-pub fn file(peer: &mut Peer<'_>, file: &Path, path: &[u8], mode: Option<FileMode>) -> Result<u64, Stop> {
+pub fn file(
+    peer: &mut Peer<'_>,
+    file: &Path,
+    path: &[u8],
+    mode: Option<FileMode>,
+    moment: Moment,
+) -> Result<u64, Stop> {
     let name = shown(file).to_string();
     let unread = |error| Stop::new(NO_INPUT, &name, error);
     let opened = File::open(file).map_err(unread)?;
@@ -26,18 +32,19 @@ pub fn file(peer: &mut Peer<'_>, file: &Path, path: &[u8], mode: Option<FileMode
     }
     let mtime = time(&name, about.mtime())?;
     let mode = mode.unwrap_or(FileMode(REGULAR | about.mode() & 0o777));
+    let stamp = Stamp { mode, mtime, moment };
     let total = about.is_file().then_some(about.len());
     let source =
         Source { from: Box::new(&opened), opened: total.map(|_| (&opened, about)), ..Source::new(&name, total) };
-    pushed(peer, source, path, mode, mtime)
+    pushed(peer, source, path, stamp)
 }
 
 /// Pushes standard input, with the time that it is now.
-pub fn stdin(peer: &mut Peer<'_>, path: &[u8], mode: Option<FileMode>) -> Result<u64, Stop> {
+pub fn stdin(peer: &mut Peer<'_>, path: &[u8], mode: Option<FileMode>, moment: Moment) -> Result<u64, Stop> {
     let name = "standard input";
     let now = SystemTime::now().duration_since(SystemTime::UNIX_EPOCH).map_or(-1, |since| since.as_secs() as i64);
-    let mtime = time(name, now)?;
-    pushed(peer, Source::new(name, None), path, mode.unwrap_or(PLAIN), mtime)
+    let stamp = Stamp { mode: mode.unwrap_or(PLAIN), mtime: time(name, now)?, moment };
+    pushed(peer, Source::new(name, None), path, stamp)
 }
 
 /// A push's time has 32 bits.
@@ -47,8 +54,16 @@ fn time(name: &str, seconds: i64) -> Result<u32, Stop> {
     u32::try_from(seconds).map_err(outside)
 }
 
-fn pushed(peer: &mut Peer<'_>, mut source: Source<'_>, path: &[u8], mode: FileMode, mtime: u32) -> Result<u64, Stop> {
-    let sent = peer.session.push(peer.link, path, mode, mtime, &mut source);
+/// What a push says of its file, and when it starts.
+struct Stamp {
+    mode: FileMode,
+    mtime: u32,
+    moment: Moment,
+}
+
+fn pushed(peer: &mut Peer<'_>, mut source: Source<'_>, path: &[u8], stamp: Stamp) -> Result<u64, Stop> {
+    let Stamp { mode, mtime, moment } = stamp;
+    let sent = peer.session.push(peer.link, path, mode, mtime, moment, &mut source);
     let far = format!("{} to {}, after {}", source.name, Shown(path), source.far());
     let bytes = match sent {
         Ok(bytes) => bytes,

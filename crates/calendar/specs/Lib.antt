@@ -1,0 +1,4 @@
+pub mod Calendar
+pub mod Claim
+pub mod Crossing
+pub mod Facts
