@@ -14,7 +14,7 @@ use Rattle.protocol.specs.Answers.{closed, error}
 use Rattle.protocol.specs.Bytes.{Bytes, ascii, numberAt, over, put, pick}
 use Rattle.protocol.specs.Digits.{digits}
 use Rattle.protocol.specs.Reader.{accepted, writes, plainWrites}
-use Rattle.protocol.specs.Ids.{letters}
+use Rattle.protocol.specs.Ids.{letters, published}
 use Rattle.protocol.proofs.Ids.{published-legal}
 use Rattle.text_lines.specs.Lines.{linesOf as cutLines}
 use Rattle.id_table.specs.IdsFile.{ids, checked, idsIn, fileWith}
@@ -25,16 +25,16 @@ use Rattle.session.specs.Demand3.{Opening, CodedFault, Side, reader, logFrom, D
 use Rattle.session.specs.EveryHost.{CodedHost}
 use Rattle.session.specs.Faithful.{Faithful}
 use Rattle.boundary_misuse.specs.Misuse.{Act, start, report, hasRead, Event, WideAct, Wide, opened}
-use Rattle.totals.specs.Card.{noSums, EveryMoment}
+use Rattle.totals.specs.Card.{noSums, refusedBy, EveryMoment}
 use Rattle.totals.specs.Crossing.{limit, totalOpen, totalStart, totalRead, totalWrote, totalFault}
 use Rattle.hours.specs.Settings.{settingsWith, isHours}
 use Rattle.hours.specs.Slots.{slotsFrom, spansFrom, hoursOf}
 use Rattle.hours_totals.specs.Crossing.{timedSize, timedOpen, timedStart, timedRead, timedWrote, timedFault}
 use Rattle.hours_totals.specs.System.{timedFunctions, timedTotals}
-use Rattle.protocol.specs.Calls.{Made, messages}
-use Rattle.protocol.specs.Refusal.{pathRefusal, requestRefusal, refusal}
+use Rattle.protocol.specs.Calls.{Made, call, messages}
+use Rattle.protocol.specs.Refusal.{pathRefusal, requestRefusal, refusal, refusalAt}
 use Rattle.protocol.specs.Features.{restAfter, split, hasFeature, featuresOf}
-use Rattle.protocol.specs.Messages.{messageOf, bytesOfRequest}
+use Rattle.protocol.specs.Messages.{send, messageOf, bytesOfRequest}
 use Rattle.protocol.specs.Records.{statAt}
 use Rattle.session.specs.Calls.{openRefusal, misfit, callRefusal, startCall}
 use Rattle.session.specs.Host.{Entry, atStart, run, logOf}
@@ -49,7 +49,7 @@ use Rattle.boundary.specs.Told.{replyNumber, replyBytes}
 use Rattle.recv_buf.specs.RecvBuf.{heldBytes, compacted}
 use Rattle.request_piece.specs.Pieces.{pieceList, pieceOf}
 use Rattle.claims.specs.Example.{banner, small, replied, calls, dirty, host, linesOf, logged, stumbling, twice, stumbled, thursdays, pushes, turned}
-use Rattle.claims.proofs.Claims.{demand-3, every-host, card}
+use Rattle.claims.proofs.Claims.{demand-3, every-host, card, as-reader}
 
 abbrev pub allBytes : List ℕ → Bool
 allBytes [] = true
@@ -175,6 +175,24 @@ unfolding timedOpen settingsWith hoursOf isHours totalOpen crossOpen openRefusal
 carded =
     card (dirty timedSize) (settingsWith letters none) banner 16 16 (omega arith) refl events
     (wide (start 1 0 0 0) (omega arith, (omega arith, omega arith)), (wide (report (hasRead 0)) tt, tt))
+
+-- .. of a push of a Friday and one of a Thursday, where Thursdays are open; and 25 of the first is the plain reader's
+abbrev friday : Act
+friday = start 7 1 0 86400
+
+abbrev thursday : Act
+thursday = start 7 1 0 86399
+
+pub carded-hourly : EveryMoment timedFunctions thursdays (opened banner 16 16) noSums (timedOpen (dirty timedSize) (settingsWith letters thursdays) banner 16 16 .rec)
+    (started friday ∷ started thursday ∷ [])
+unfolding timedOpen settingsWith slotsFrom spansFrom hoursOf isHours totalOpen crossOpen openRefusal lentIn checked
+carded-hourly =
+    card (dirty timedSize) (settingsWith letters thursdays) banner 16 16 (omega arith) refl (started friday ∷ started thursday ∷ [])
+    (wide friday (omega arith, (omega arith, omega arith)), (wide thursday (omega arith, (omega arith, omega arith)), tt))
+
+pub read-alike : refusedBy thursdays (opened banner 16 16) noSums (started friday)
+    ≡ refusalAt thursdays (record { dialect = published; features = featuresOf banner; ended = false }) (record { call = call (send (ascii "/a") 1); moment = 86400 })
+read-alike = as-reader thursdays (opened banner 16 16) noSums (started friday) 7 1 0 86400 (call (send (ascii "/a") 1)) refl refl refl refl refl
 
 -- the logs, computed, under either table, and with hours
 pub logs-shown : (map linesOf (logFrom timedTotals publishing calls (A (ascii "STAT") refl)) ≡ logged (ascii "STAT") (ascii "QUIT"))
