@@ -212,7 +212,7 @@ module _ (b : List ℕ) (t : ℕ) (within : t ≤ length b) where
 
   end-over : (m : List ℕ) → take t b ++ over (drop t b) 0 m ≡ over b t m
   unfolding over
-  end-over m = rw (zero-add, drop-drop, append_assoc)
+  end-over m = rw (zero-add, drop-drop) (sym (append_assoc (take t b) m (drop (t + length m) b)))
 
   pub end-put : (m : List ℕ) → take t b ++ put (drop t b) 0 m ≡ put b t m
   end-put m = go (dec_le (t + length m) (length b))
