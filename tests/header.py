@@ -32,8 +32,8 @@ WITHOUT = {
 }
 # what is numbered by its place in a list: feature names, requests, what is told of a request, the words of a date
 LISTED = r'ascii "\w+"|some Q\.\w+|some \(Q\.\w+(?: \w| \(record \{ 0 = \w \}\))+\)'
-LISTED += r'|(?:callNumber|(?:first|flag)Number nothing) \(call q\)|headerSize(?= ∷)|length \(lentOf nothing \(call q\)\)|\bn(?= ∷ \[\])'
-LISTED += r'|(?<=[e)] )\(d \.\w+\)(?= )|(?<=\) )w(?= n\n)|(?<=\) w )n(?=\n)'
+LISTED += r'|(?:call_number|(?:first|flag)_number nothing) \(call q\)|header_size(?= ∷)|length \(lent_of nothing \(call q\)\)|\bn(?= ∷ \[\])'
+LISTED += r'|d\.(?:year|month|day)(?= )|(?<=d\.day )w(?= n\n)|(?<=d\.day w )n(?=\n)'
 # of what is no number: the header's remark on a call, a parameter's type
 EDITS = [
     ('header', '/* path   mode         moment */', '/* path                moment */'),
@@ -43,9 +43,9 @@ EDITS = [
     ('rust', 'count: usize, out: *mut u8', 'count: u32, out: *mut u8'),
     ('rust', 'Self::Send(.., moment) | Self::SendV2(.., moment) => moment', 'Self::Send(.., moment) => moment'),
     ('rust', 'b: u32, moment: u32, out: *mut u8', 'b: u32, out: *mut u8'),
-    ('definitions', 'isPush (call (chunk x)) = false', 'isPush (call (chunk x)) = true'),
-    ('definitions', 'flagNumber z (call (rcv2 p f)) = f', 'flagNumber z (call (rcv2 p f)) = z .second'),
-    ('definitions', 'lentOf z (call (done t)) = z .lent', 'lentOf z (call (done t)) = t'),
+    ('definitions', 'is_push (call (chunk x)) = false', 'is_push (call (chunk x)) = true'),
+    ('definitions', 'flag_number z (call (rcv2 p f)) = f', 'flag_number z (call (rcv2 p f)) = z.second'),
+    ('definitions', 'lent_of z (call (done t)) = z.lent', 'lent_of z (call (done t)) = t'),
     ('definitions', 'kind: u32,\n    code: u32,', 'code: u32,\n    kind: u32,'),
     # the order of the answers
     ('header', '5, 8, 7, 9, 10, 25 is', '5, 7, 8, 9, 10, 25 is'),
@@ -54,17 +54,17 @@ EDITS = [
     ('header', '9, 10, 25 is', '9, 25, 10 is'),
     ('rust', '9, 10, 25 is', '9, 25, 10 is'),
     ('page of answers', '9, 10, 25 is', '9, 25, 10 is'),
-    ('definitions', 'refusalAt h g m = orElse (refusal g (m .call)) (refuse (outside h m) (refused closedHours))',
-     'refusalAt h g m = orElse (refuse (outside h m) (refused closedHours)) (refusal g (m .call))'),
-    ('definitions', 'orElse (refuse (has 0 p) (refused 8)) (refuse (ltb (d .longest) (length p)) (refused 7))',
-     'orElse (refuse (ltb (d .longest) (length p)) (refused 7)) (refuse (has 0 p) (refused 8))'),
+    ('definitions', 'refusal_at h g m = or_else (refusal g m.call) (refuse (outside h m) (refused closed_hours))',
+     'refusal_at h g m = or_else (refuse (outside h m) (refused closed_hours)) (refusal g m.call)'),
+    ('definitions', 'or_else (refuse (has 0 p) (refused 8)) (refuse (ltb d.longest (length p)) (refused 7))',
+     'or_else (refuse (ltb d.longest (length p)) (refused 7)) (refuse (has 0 p) (refused 8))'),
     ('header', '6, 5, 11, 21', '6, 5, 21, 11'),
     ('rust', '6, 5, 11, 21', '6, 5, 21, 11'),
     ('page of answers', '6, 5, 11, 21', '6, 5, 21, 11'),
     ('header', 'it is 22, then 23', 'it is 23, then 22'),
     ('page of answers', 'it is 22, then 23', 'it is 23, then 22'),
-    ('definitions', '(pick (twoEqual vs) (refused equalValues) (ids vs)) (refused badForm)',
-     '(pick (twoEqual vs) (refused badForm) (ids vs)) (refused equalValues)'),
+    ('definitions', '(pick (two_equal vs) (refused equal_values) (ids vs)) (refused bad_form)',
+     '(pick (two_equal vs) (refused bad_form) (ids vs)) (refused equal_values)'),
     ('header', 'hours 24 behind them', 'hours 22 behind them'),
     ('rust', 'hours 24 behind them', 'hours 22 behind them'),
     ('page of answers', 'hours 24 behind them', 'hours 22 behind them'),
