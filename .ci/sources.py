@@ -1,21 +1,23 @@
-"""What the prover does not look at: the definitions import no code, no public function has a `requires` or lacks an `ensures`, each
-crate that states something has a must-fail edit, the wrong programs and the theorems that docs/PROMISES.md names are there, no file names a
-path of one machine, and no text for users a paper that they don't have."""
+"""What the prover does not look at: the definitions import no code, no public function has a `requires` or lacks an `ensures`, what C calls states
+what crates may cite, each crate that states something has a must-fail edit, the wrong programs and the theorems that docs/PROMISES.md names are
+there, no file names a path of one machine, and no text for users a paper that they don't have."""
 import pathlib
 import re
 import subprocess
 import sys
 
 faults = []
+# of the library: words of clauses, and numbers, lists and texts
+LIBRARY = ('Rattle.std.specs.Prelude.', 'Rattle.std.proofs.Math.', 'Prim.')
 
 
 def definitions():
     """The protocol's definitions stand alone: they import the libraries and each other. So does the plain reader's count of reads, beside them."""
-    own = {'protocol': ('Rattle·protocol·specs.specs.',), 'protocol_reads': ('Rattle·protocol_reads·specs.specs.', 'Rattle·protocol.specs.')}
+    own = {'protocol': ('Rattle.protocol.specs.',), 'protocol_reads': ('Rattle.protocol_reads.specs.', 'Rattle.protocol.specs.')}
     for crate, path in ((c, p) for c in own for p in sorted(pathlib.Path(f'crates/{c}/specs').rglob('*.antt'))):
         for line in path.read_text().split('\n'):
-            used = re.match(r'\s*(?:pub )?use (Rattle·\S+)', line)
-            if used and not used.group(1).startswith(own[crate]):
+            used = re.match(r'\s*(?:pub )?use (\S+)', line)
+            if used and not used.group(1).startswith(own[crate] + LIBRARY):
                 faults.append(f'{path}: imports {used.group(1)}')
             if used and '.declared.' in used.group(1):
                 faults.append(f'{path}: imports a type of the code, {used.group(1)}')
@@ -24,11 +26,11 @@ def definitions():
 def heads(text):
     """The name and the clauses of each public function of a source."""
     text = re.sub(r'//[^\n]*', '', text)
-    for found in re.finditer(r'\bpub\s+(?:extern\s+"C"\s+)?fn\s+(\w+)', text):
+    for found in re.finditer(r'\bpub\s+(?:const\s+)?(?:unsafe\s+)?(?:extern\s+"C"\s+)?fn\s+(\w+)', text):
         depth, at = 0, found.end()
         while at < len(text):
             if text[at] == '{':
-                if depth == 0 and not re.search(r'\b(requires|ensures|ghost)\s*\w*\s*$', text[found.end():at]):
+                if depth == 0 and not re.search(r'\b(requires|ensures|ghost)\*?\s*\w*\s*$', text[found.end():at]):
                     break
                 depth += 1
             elif text[at] == '}':
@@ -46,6 +48,18 @@ def contracts():
                 faults.append(f'{path}: {name} has a `requires`')
             if not re.search(r'\bensures\b', clauses):
                 faults.append(f'{path}: {name} states nothing')
+
+
+def exported():
+    """Each function that C calls is one of the crate `exports`, with the same parameters and the same clauses."""
+    cited, called = (dict(heads(pathlib.Path(f'crates/{crate}/src/lib.rt').read_text())) for crate in ('exports', 'exports_c'))
+    for name in sorted(cited.keys() | called.keys()):
+        stated = [re.sub(r',(?=\))', '', re.sub(r'\s', '', of.get(name, 'nothing'))) for of in (cited, called)]
+        if stated[0] != stated[1]:
+            faults.append(f'crates/exports_c/src/lib.rt: {name} is not as in crates/exports')
+    marked = re.findall(r'#\[unsafe\(no_mangle\)\]\npub extern "C" fn (\w+)', pathlib.Path('crates/exports_c/src/lib.rt').read_text())
+    if not called or sorted(marked) != sorted(called):
+        faults.append('crates/exports_c/src/lib.rt: a function that C cannot call, or none')
 
 
 def edits():
@@ -100,6 +114,7 @@ def papers():
 
 definitions()
 contracts()
+exported()
 edits()
 named()
 claimed()

@@ -1,5 +1,5 @@
 #!/usr/bin/env bash
-# Measures the library beside 000 and writes docs/BENCHMARKS.md.
+# Measures the library beside 000, as the kit at hand has built it, and writes docs/BENCHMARKS.md.
 #
 #   YUGLASNO_000=DIR [YUGLASNO_LIB=DIR] bash rust/bench.sh
 #
@@ -94,9 +94,8 @@ times() {
 
 page=../docs/BENCHMARKS.md
 {
+  printf '# Benchmarks\n\nMeasured with the kit %s.\n\n' "$(rt version)"
   cat <<'TEXT'
-# Benchmarks
-
 The library beside 000 (the Rust of tarigo/libadb that it was carried over from), on the same scripted bytes, written by `rust/bench.sh`. Both are called from one program,
 release build; 000 is compiled with it in one unit, so that its small functions are inlined, and its listing gathers entries in a `Vec`,
 where here each is handed out. The channel is the same code for both; "channel alone" asks it the same reads and writes in a bare loop.

@@ -1,6 +1,6 @@
 #!/usr/bin/env bash
 # The Rust side's checks: its tests and documentation, and the exported functions under any input, plain and under valgrind. Over the
-# static library that `rt staticlib exports` makes, or the one in the folder YUGLASNO_LIB. Its last line is 'N passed, M failed'; it
+# static library that `.ci/build library` makes, or the one in the folder YUGLASNO_LIB. Its last line is 'N passed, M failed'; it
 # exits non-zero where M is not 0.
 set -u
 cd "$(dirname "$0")" || exit 1
@@ -43,7 +43,7 @@ finish() {
 
 command -v cargo >/dev/null || { echo "rust: no cargo on the path"; failed=1; finish; }
 if [ -z "${YUGLASNO_LIB:-}" ]; then
-  (cd .. && rt staticlib exports) || { echo "rust: no static library"; failed=1; finish; }
+  ../.ci/build library || { echo "rust: no static library"; failed=1; finish; }
 fi
 
 tests

@@ -20,7 +20,7 @@ V2_WORDS = ('ERROR', 'DEV', 'INO', 'MODE', 'NLINK', 'UID', 'GID', 'SIZE', 'ATIME
 
 
 if not LIBRARY.is_file():
-    sys.exit(f'no {LIBRARY}: run `rt staticlib exports`, or set YUGLASNO_LIB to the folder that has it')
+    sys.exit(f'no {LIBRARY}: run `.ci/build library`, or set YUGLASNO_LIB to the folder that has it')
 
 
 def loaded(folder):

@@ -9,7 +9,7 @@ from counted import Count
 from host import LIBRARY
 
 ROOT = pathlib.Path(__file__).resolve().parent.parent
-HELP = 'run `rt staticlib exports` in the repository, or set YUGLASNO_LIB to the folder that has it'
+HELP = 'run `.ci/build library` in the repository, or set YUGLASNO_LIB to the folder that has it'
 
 
 def checked(target, called_in, named):

@@ -1,5 +1,5 @@
-"""The size of the static library: what the names of four features share with a fifth stands in it once; its code and read-only data are
-together no more than a note in docs/changes says, and as docs/BENCHMARKS.md has them. The last line is 'N passed, M failed'.
+"""The size of the static library: what the names of four features share with a fifth stands in it once; with the kit that docs/BENCHMARKS.md names,
+its code and read-only data are together no more than a note in docs/changes says, and as that page has them. The last line is 'N passed, M failed'.
 
 `size.py table` prints the table of docs/BENCHMARKS.md instead."""
 import re
@@ -38,26 +38,34 @@ def in_notes():
     return max(map(number, rows), default=0)
 
 
+def page():
+    return (ROOT / 'docs' / 'BENCHMARKS.md').read_text()
+
+
 def in_page():
     """The table of docs/BENCHMARKS.md."""
-    page = (ROOT / 'docs' / 'BENCHMARKS.md').read_text()
-    return {name: number(length) for name, length in re.findall(r'^\| ([a-z -]+) \| ([\d,]+) \|$', page, re.M) if name in PARTS}
+    return {name: number(length) for name, length in re.findall(r'^\| ([a-z -]+) \| ([\d,]+) \|$', page(), re.M) if name in PARTS}
 
 
-def of_pinned_kit():
-    kit = subprocess.run(['rt', 'version'], capture_output=True, text=True).stdout if shutil.which('rt') else ''
-    return kit.strip() == (ROOT / '.ci' / 'kit').read_text().strip()
+def kit_of_page():
+    """The kit whose compiler the sizes are of."""
+    return re.search(r'^Measured with the kit (\S+ logic [0-9a-f]+)', page(), re.M)[1]
+
+
+def kit_here():
+    return subprocess.run(['rt', 'version'], capture_output=True, text=True).stdout.strip() if shutil.which('rt') else ''
 
 
 def main():
     count, found = Count('size'), parts()
     times = LIBRARY.read_bytes().count(SHARED)
     count.check(times == 1, f'{SHARED.decode()} stands {times} times in the library, not once')
-    if of_pinned_kit():
+    count.check(set(in_page()) == set(PARTS), f'docs/BENCHMARKS.md has {in_page()}')
+    if kit_here() == kit_of_page():
         count.check(found['their sum'] <= in_notes(), f"{found['their sum']} bytes of code and read-only data; the notes allow {in_notes()}")
         count.check(found == in_page(), f'{found}; docs/BENCHMARKS.md has {in_page()}: run rust/bench.sh')
     else:
-        print('size: not the pinned kit, whose compiler the sizes are of: they are LEFT OUT')
+        print(f'size: the sizes are of {kit_of_page()}, and this is {kit_here() or "no kit"}: they are LEFT OUT')
     count.finish()
 
 

@@ -24,7 +24,7 @@ fn main() {
     println!("cargo::rerun-if-env-changed=YUGLASNO_LIB");
     let Some(folder) = folders().into_iter().find(|folder| folder.join(ARCHIVE).is_file()) else {
         let named = named().unwrap_or_else(|| "target/staticlib".into());
-        let help = "run `rt staticlib exports` in the repository, or set YUGLASNO_LIB to the folder that has it";
+        let help = "run `.ci/build library` in the repository, or set YUGLASNO_LIB to the folder that has it";
         println!("cargo::error=no {ARCHIVE} in {}: {help}", named.display());
         return;
     };

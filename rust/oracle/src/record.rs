@@ -8,7 +8,7 @@
 //! A record's first byte says what it is:
 //! * 01, a list starts, on a session just opened: n4 capacity, the banner as bytes, n1 the byte that fills both buffers. The message buffer
 //!   is as long as the receive buffer.
-//! * 02, a step: n1 its number at the boundary (`requestNumbered` and `stepNumbered`), n4 and n4 its two numbers, what it is lent as bytes.
+//! * 02, a step: n1 its number at the boundary (`request_numbered` and `step_numbered`), n4 and n4 its two numbers, what it is lent as bytes.
 //! * 03, the step asks for a read: n4 where the window starts, n4 how long it is, report; if accepted, the bytes that come.
 //! * 04, it asks for a write: n1 what part (2 of the receive buffer, 3 of what is lent, 4 by value), n4 where the part starts (0 by value),
 //!   the piece as bytes, report.
