@@ -344,7 +344,9 @@ def convert(root, crate, key, names):
                 found = re.search(r"(?m)^" + re.escape(m[1]) + r" (\S+)", "\n".join(lines[1:]))
                 variable = found[1] if found else "c"
             whole = body_of(f, whole, variable, at[1], None, None)
-        whole = re.sub(r"\(?tie\.([A-Z][^\s)]*)((?: invariant-\S+| decreases-[^\s)]+)*)\)?(?=[\s)])", lambda t: place_name(t) if t[1].startswith(("At", "After", "Then", "Else", "In", "Start", "Joined")) else t[0], whole) if not section else re.sub(r"tie\.([A-Z][^\s)]*)((?: invariant-\S+| decreases-[^\s)]+)*)", place_name, whole)
+        proofs = r"((?: invariant-[^\s)]+| decreases-[^\s)]+)*)"
+        whole = re.sub(r"\(tie\.((?:At|After|Then|Else|In|Start|Joined)[^\s)]*)" + proofs + r"\)", place_name, whole)
+        whole = re.sub(r"tie\.((?:At|After|Then|Else|In|Start|Joined)[^\s)]*)" + proofs, place_name, whole)
         helpers.append("\n".join(lead + [whole]))
     # the arguments of tie.spec, in the order of the needs: what was written there becomes an answer
     args = [a for a in spec_args if not re.match(r"(invariant|decreases)-", a)]
