@@ -225,6 +225,9 @@ def labelled(clause, labels, notes):
         if now.strip():
             parts.append(now.strip())
     if depth or len(parts) != len(labels):
+        if len(labels) > 1 and last.count("(") == last.count(")"):
+            fields = "; ".join(f"{l} = both.{n}" for n, l in enumerate(labels))
+            return head + eq + rest[:cut] + f"\n    let both = {last} in\n    record {{ {fields} }}"
         notes.append(f"asks {labels}: {last[:60]}")
         return clause
     made = "record { " + "; ".join(f"{l} = {re.sub(chr(10) + ' *', ' ', p)}" for l, p in zip(labels, parts)) + " }"
