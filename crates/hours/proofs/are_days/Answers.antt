@@ -10,24 +10,17 @@ loop-at-init c = (search rules, refl, refl)
 
 pub returns-then-not-is_day : goal.returns-then-not-is_day
 returns-then-not-is_day c =
-    let u = c in
-    let l = c in
-    let a = c in
-    let next = days-next a.args.bytes.now l.loop-at.at (λ i. (a.type_inv.bytes i).fits) (omega arith) in
-    sym (l.loop-at.invariant.2 ∙ next ∙ rw (← u.u32_at-word.ensures, ← c.is_day.ensures, c.if-not-is_day.true))
+    let next = days-next c.args.bytes.now c.loop-at.at (λ i. (c.type_inv.bytes i).fits) (omega arith) in
+    sym (c.loop-at.invariant.2 ∙ next ∙ rw (← c.u32_at-word.ensures, ← c.is_day.ensures, c.if-not-is_day.true))
 
 pub loop-at-preserved : goal.loop-at-preserved
 loop-at-preserved c =
-    let u = c in
-    let l = c in
-    let a = c in
-    let next = days-next a.args.bytes.now l.loop-at.at (λ i. (a.type_inv.bytes i).fits) (omega arith) in (
+    let next = days-next c.args.bytes.now c.loop-at.at (λ i. (c.type_inv.bytes i).fits) (omega arith) in (
       omega arith,
       omega arith,
-      l.loop-at.invariant.2 ∙ next ∙ rw (← u.u32_at-word.ensures, ← c.is_day.ensures, c.if-not-is_day.false),
+      c.loop-at.invariant.2 ∙ next ∙ rw (← c.u32_at-word.ensures, ← c.is_day.ensures, c.if-not-is_day.false),
     )
 
 pub returns : goal.returns
 returns c =
-    let l = c in
-    sym (l.loop-at.invariant.2 ∙ days-end l.args.bytes.now l.loop-at.at (omega arith))
+    sym (c.loop-at.invariant.2 ∙ days-end c.args.bytes.now c.loop-at.at (omega arith))

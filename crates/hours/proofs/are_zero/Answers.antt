@@ -11,15 +11,12 @@ loop-i-init c = (search rules, refl)
 
 pub returns-then-s-i-ne0 : goal.returns-then-s-i-ne0
 returns-then-s-i-ne0 c =
-    let l = c in
-    sym (l.loop-i.invariant.1 ∙ rw (zero-next l.args.s.now l.loop-i.i (omega arith), ne_eqb _ _ c.if-s-i-ne0.true))
+    sym (c.loop-i.invariant.1 ∙ rw (zero-next c.args.s.now c.loop-i.i (omega arith), ne_eqb _ _ c.if-s-i-ne0.true))
 
 pub loop-i-preserved : goal.loop-i-preserved
 loop-i-preserved c =
-    let l = c in
-    (search rules, l.loop-i.invariant.1 ∙ rw (zero-next l.args.s.now l.loop-i.i (omega arith), eq-eqb _ _ c.if-s-i-ne0.false))
+    (search rules, c.loop-i.invariant.1 ∙ rw (zero-next c.args.s.now c.loop-i.i (omega arith), eq-eqb _ _ c.if-s-i-ne0.false))
 
 pub returns : goal.returns
 returns c =
-    let l = c in
-    sym (l.loop-i.invariant.1 ∙ zero-end l.args.s.now l.loop-i.i (omega arith))
+    sym (c.loop-i.invariant.1 ∙ zero-end c.args.s.now c.loop-i.i (omega arith))

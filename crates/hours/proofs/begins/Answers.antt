@@ -14,18 +14,15 @@ loop-i-init c = (search rules, begins-start c.args.s.now c.args.text.now)
 
 pub returns-then-s-i : goal.returns-then-s-i
 returns-then-s-i c =
-    let l = c in
-    let a = l.args in
-    sym (l.loop-i.invariant.1 ∙ rw (begins-next a.s.now a.text.now l.loop-i.i (omega arith) (omega arith), ne_eqb _ _ c.if-s-i.true))
+    let a = c.args in
+    sym (c.loop-i.invariant.1 ∙ rw (begins-next a.s.now a.text.now c.loop-i.i (omega arith) (omega arith), ne_eqb _ _ c.if-s-i.true))
 
 pub loop-i-preserved : goal.loop-i-preserved
 loop-i-preserved c =
-    let l = c in
-    let a = l.args in
-    (search rules, l.loop-i.invariant.1 ∙ rw (begins-next a.s.now a.text.now l.loop-i.i (omega arith) (omega arith), eq-eqb _ _ c.if-s-i.false))
+    let a = c.args in
+    (search rules, c.loop-i.invariant.1 ∙ rw (begins-next a.s.now a.text.now c.loop-i.i (omega arith) (omega arith), eq-eqb _ _ c.if-s-i.false))
 
 pub returns : goal.returns
 returns c =
-    let l = c in
-    let a = l.args in
-    sym (l.loop-i.invariant.1 ∙ begins-end a.s.now a.text.now l.loop-i.i (omega arith))
+    let a = c.args in
+    sym (c.loop-i.invariant.1 ∙ begins-end a.s.now a.text.now c.loop-i.i (omega arith))

@@ -4,7 +4,4 @@ use Rattle.hours.proofs.day_of.Goals as goal
 
 pub returns : goal.returns
 returns c =
-    let three = c in
-    let two = c in
-    let one = c in
-    c.checked.ensures ∙ sym (rw (one.in-Number.is, two.in-Number-opens.is, three.in-Number-closes.is))
+    c.checked.ensures ∙ sym (rw (c.in-Number.is, c.in-Number-opens.is, c.in-Number-closes.is))

@@ -9,18 +9,15 @@ loop-i-init c = (search rules, omega arith)
 
 pub returns-then-s-i : goal.returns-then-s-i
 returns-then-s-i c =
-    let l = c in
-    let a = l.args in
-    (omega (arith, before_here a.b a.s.now l.loop-i.i (omega arith) c.if-s-i.true), search rules)
+    let a = c.args in
+    (omega (arith, before_here a.b a.s.now c.loop-i.i (omega arith) c.if-s-i.true), search rules)
 
 pub loop-i-preserved : goal.loop-i-preserved
 loop-i-preserved c =
-    let l = c in
-    let a = l.args in
-    (search rules, omega (arith, before-next a.b a.s.now l.loop-i.i (omega arith) c.if-s-i.false))
+    let a = c.args in
+    (search rules, omega (arith, before-next a.b a.s.now c.loop-i.i (omega arith) c.if-s-i.false))
 
 pub returns : goal.returns
 returns c =
-    let l = c in
-    let a = l.args in
-    (omega (arith, before-end a.b a.s.now l.loop-i.i (omega arith)), search rules)
+    let a = c.args in
+    (omega (arith, before-end a.b a.s.now c.loop-i.i (omega arith)), search rules)

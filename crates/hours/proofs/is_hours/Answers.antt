@@ -20,17 +20,14 @@ returns-then-bytes-ne-HOURS c = rw (ne_eqb _ _ c.if-bytes-ne-HOURS.true)
 pub returns-then-flag-eq-NO_HOURS : goal.returns-then-flag-eq-NO_HOURS
 unfolding is_hours
 returns-then-flag-eq-NO_HOURS c =
-    let u = c in
-    rw (eq-eqb _ _ u.if-bytes-ne-HOURS.false, flag (goal.at.returns-then-flag-eq-NO_HOURS c).After-u32_at-flag, eq-eqb _ _ c.if-flag-eq-NO_HOURS.true) c.are_zero.ensures
+    rw (eq-eqb _ _ c.if-bytes-ne-HOURS.false, flag (goal.at.returns-then-flag-eq-NO_HOURS c).After-u32_at-flag, eq-eqb _ _ c.if-flag-eq-NO_HOURS.true) c.are_zero.ensures
 
 pub returns-then-flag-ne-SOME_HOURS : goal.returns-then-flag-ne-SOME_HOURS
 unfolding is_hours
 returns-then-flag-ne-SOME_HOURS c =
-    let u = c in
-    rw (eq-eqb _ _ u.if-bytes-ne-HOURS.false, flag (goal.at.returns-then-flag-ne-SOME_HOURS c).After-u32_at-flag, ne_eqb _ _ c.if-flag-eq-NO_HOURS.false, ne_eqb _ _ c.if-flag-ne-SOME_HOURS.true)
+    rw (eq-eqb _ _ c.if-bytes-ne-HOURS.false, flag (goal.at.returns-then-flag-ne-SOME_HOURS c).After-u32_at-flag, ne_eqb _ _ c.if-flag-eq-NO_HOURS.false, ne_eqb _ _ c.if-flag-ne-SOME_HOURS.true)
 
 pub returns : goal.returns
 unfolding is_hours
 returns c =
-    let u = c in
-    rw (eq-eqb _ _ u.if-bytes-ne-HOURS.false, flag (goal.at.returns c).After-u32_at-flag, ne_eqb _ _ c.if-flag-eq-NO_HOURS.false, eq-eqb _ _ c.if-flag-ne-SOME_HOURS.false) c.are_days.ensures
+    rw (eq-eqb _ _ c.if-bytes-ne-HOURS.false, flag (goal.at.returns c).After-u32_at-flag, ne_eqb _ _ c.if-flag-eq-NO_HOURS.false, eq-eqb _ _ c.if-flag-ne-SOME_HOURS.false) c.are_days.ensures

@@ -10,14 +10,12 @@ returns-then-bytes-eq0 c = let a = c.args in sym (lets-none a.bytes.now a.moment
 
 pub returns-then-minute-word : goal.returns-then-minute-word
 returns-then-minute-word c =
-    let one = c in
-    let a = one.args in
-    let by = lets_by a.bytes.now a.moment (λ i. (one.type_inv.bytes i).fits) (search rules) one.if-bytes-eq0.false in
+    let a = c.args in
+    let by = lets_by a.bytes.now a.moment (λ i. (c.type_inv.bytes i).fits) (search rules) c.if-bytes-eq0.false in
     sym (by ∙ rw (← c.u32_at-word.ensures, lt-leb _ _ c.if-minute-word.true))
 
 pub returns : goal.returns
 returns c =
-    let one = c in
-    let a = one.args in
-    let by = lets_by a.bytes.now a.moment (λ i. (one.type_inv.bytes i).fits) (search rules) one.if-bytes-eq0.false in
+    let a = c.args in
+    let by = lets_by a.bytes.now a.moment (λ i. (c.type_inv.bytes i).fits) (search rules) c.if-bytes-eq0.false in
     sym (by ∙ rw (← c.u32_at-word.ensures, le-leb _ _ c.if-minute-word.false))

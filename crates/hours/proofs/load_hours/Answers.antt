@@ -26,9 +26,8 @@ returns-then-settings-ne-SETTINGS c = rw (ne_eqb _ _ c.if-settings-ne-SETTINGS.t
 pub returns-then-not-begins : goal.returns-then-not-begins
 unfolding loaded_hours
 returns-then-not-begins c =
-    let start = c in
     let bad = sym c.begins.ensures ∙ c.if-not-begins.true in
-    rw (eq-eqb _ _ c.if-settings-ne-SETTINGS.false, file-unread start.args.file.now bad)
+    rw (eq-eqb _ _ c.if-settings-ne-SETTINGS.false, file-unread c.args.file.now bad)
 
 pub slice_bounds-read_days-count : goal.slice_bounds-read_days-count
 slice_bounds-read_days-count c = long (goal.at.slice_bounds-read_days-count c).Else-not-begins
@@ -36,22 +35,13 @@ slice_bounds-read_days-count c = long (goal.at.slice_bounds-read_days-count c).E
 pub returns-then-not-read_days : goal.returns-then-not-read_days
 unfolding loaded_hours
 returns-then-not-read_days c =
-    let d = c in
-    let two = c in
-    let file = two.args.file.now in
-    let bad = refused-by _ _ _ d.read_days.ensures (c.if-not-read_days.true) in
-    rw (eq-eqb _ _ two.if-settings-ne-SETTINGS.false, lines-refused file (headed (goal.at.returns-then-not-read_days c).Else-not-begins) bad)
+    let file = c.args.file.now in
+    let bad = refused-by _ _ _ c.read_days.ensures (c.if-not-read_days.true) in
+    rw (eq-eqb _ _ c.if-settings-ne-SETTINGS.false, lines-refused file (headed (goal.at.returns-then-not-read_days c).Else-not-begins) bad)
 
 pub returns : goal.returns
 unfolding loaded_hours
 returns c =
-    let p = c in
-    let q = c in
-    let three = c in
-    let d = c in
-    let two = c in
-    let start = c in
-    let one = c in
-    let good = taken-by _ _ _ d.read_days.ensures (three.if-not-read_days.false) in
-    let all = lines-taken start.args.file.now (headed (goal.at.returns c).Else-not-begins) d.read_days.new.days start.args.settings.now one.if-settings-ne-SETTINGS.false good in
-    rw (eq-eqb _ _ one.if-settings-ne-SETTINGS.false, p.put_bytes.ensures, q.put_u32.ensures) all
+    let good = taken-by _ _ _ c.read_days.ensures (c.if-not-read_days.false) in
+    let all = lines-taken c.args.file.now (headed (goal.at.returns c).Else-not-begins) c.read_days.new.days c.args.settings.now c.if-settings-ne-SETTINGS.false good in
+    rw (eq-eqb _ _ c.if-settings-ne-SETTINGS.false, c.put_bytes.ensures, c.put_u32.ensures) all

@@ -11,24 +11,19 @@ returns-then-settings-ne-SETTINGS c = rw (ne_eqb _ _ c.if-settings-ne-SETTINGS.t
 pub returns-then-not-is_hours : goal.returns-then-not-is_hours
 unfolding cross_may_push
 returns-then-not-is_hours c =
-    let i = c in
-    let bad = sym i.is_hours.ensures ∙ c.if-not-is_hours.true in
-    rw (eq-eqb _ _ i.if-settings-ne-SETTINGS.false, bad)
+    let bad = sym c.is_hours.ensures ∙ c.if-not-is_hours.true in
+    rw (eq-eqb _ _ c.if-settings-ne-SETTINGS.false, bad)
 
 pub returns-then-not-lets_at : goal.returns-then-not-lets_at
 unfolding cross_may_push
 returns-then-not-lets_at c =
-    let two = c in
-    let i = c in
-    let good = sym i.is_hours.ensures ∙ two.if-not-is_hours.false in
+    let good = sym c.is_hours.ensures ∙ c.if-not-is_hours.false in
     let shut = sym c.lets_at.ensures ∙ c.if-not-lets_at.true in
-    rw (eq-eqb _ _ i.if-settings-ne-SETTINGS.false, good, shut)
+    rw (eq-eqb _ _ c.if-settings-ne-SETTINGS.false, good, shut)
 
 pub returns : goal.returns
 unfolding cross_may_push
 returns c =
-    let two = c in
-    let i = c in
-    let good = sym i.is_hours.ensures ∙ two.if-not-is_hours.false in
+    let good = sym c.is_hours.ensures ∙ c.if-not-is_hours.false in
     let free = sym c.lets_at.ensures ∙ c.if-not-lets_at.false in
-    rw (eq-eqb _ _ i.if-settings-ne-SETTINGS.false, good, free)
+    rw (eq-eqb _ _ c.if-settings-ne-SETTINGS.false, good, free)

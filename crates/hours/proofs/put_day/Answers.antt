@@ -9,8 +9,7 @@ use Rattle.hours.proofs.put_day.Goals as goal
 
 pub returns : goal.returns
 returns c =
-    let p = c in
-    let a = p.args in
-    p.put_u32.ensures
+    let a = c.args in
+    c.put_u32.ensures
     ∙ ap (put a.days.now (4 * a.day)) (pair_word a.opens a.closes (omega arith))
     ∙ put_in a.days.now (4 * a.day) _ (omega arith)

@@ -12,10 +12,8 @@ returns-then-first-line c =
 
 pub returns-then-second-rest : goal.returns-then-second-rest
 returns-then-second-rest c =
-    let two = c in
-    let one = c in
-    let line = one.args.line.now in
-    sym (second_none line one.find-first.result two.find-second.result one.find-first.ensures.0 (omega arith) two.find-second.ensures.0 (omega arith))
+    let line = c.args.line.now in
+    sym (second_none line c.find-first.result c.find-second.result c.find-first.ensures.0 (omega arith) c.find-second.ensures.0 (omega arith))
 
 pub slice_bounds-parse_u32-end : goal.slice_bounds-parse_u32-end
 slice_bounds-parse_u32-end c = sym (length-take-le _ _ (omega arith))
@@ -25,11 +23,6 @@ slice_bounds-parse_u32-end-2 c = sym (length-take-le _ _ (omega arith))
 
 pub returns : goal.returns
 returns c =
-    let third = c in
-    let second = c in
-    let first = c in
-    let two = c in
-    let one = c in
-    let line = one.args.line.now in
-    let all = all_three line one.find-first.result two.find-second.result one.find-first.ensures.0 (omega arith) two.find-second.ensures.0 (omega arith) in
-    c.day_of.ensures ∙ rw (first.parse_u32-day.ensures, second.parse_u32-opens.ensures, third.parse_u32-closes.ensures) (sym all)
+    let line = c.args.line.now in
+    let all = all_three line c.find-first.result c.find-second.result c.find-first.ensures.0 (omega arith) c.find-second.ensures.0 (omega arith) in
+    c.day_of.ensures ∙ rw (c.parse_u32-day.ensures, c.parse_u32-opens.ensures, c.parse_u32-closes.ensures) (sym all)

@@ -12,20 +12,17 @@ loop-left-init c = (search rules, refl)
 
 pub returns-then-not-is_value : goal.returns-then-not-is_value
 returns-then-not-is_value c =
-    let l = c in
-    let a = l.args in
+    let a = c.args in
     let bad = sym c.is_value.ensures ∙ c.if-not-is_value.true in
-    sym (l.loop-left.invariant.1 ∙ rw (groups-next a.step l.loop-left.left a.s.now l.loop-left.at (omega arith), bad))
+    sym (c.loop-left.invariant.1 ∙ rw (groups-next a.step c.loop-left.left a.s.now c.loop-left.at (omega arith), bad))
 
 pub loop-left-preserved : goal.loop-left-preserved
 loop-left-preserved c =
-    let l = c in
-    let a = l.args in
+    let a = c.args in
     let good = sym c.is_value.ensures ∙ c.if-not-is_value.false in
-    (omega arith, l.loop-left.invariant.1 ∙ rw (groups-next a.step l.loop-left.left a.s.now l.loop-left.at (omega arith), good))
+    (omega arith, c.loop-left.invariant.1 ∙ rw (groups-next a.step c.loop-left.left a.s.now c.loop-left.at (omega arith), good))
 
 pub returns : goal.returns
 returns c =
-    let l = c in
-    let a = l.args in
-    sym (l.loop-left.invariant.1 ∙ ap are_values (groups_none a.step l.loop-left.left (drop l.loop-left.at a.s.now) (omega arith)))
+    let a = c.args in
+    sym (c.loop-left.invariant.1 ∙ ap are_values (groups_none a.step c.loop-left.left (drop c.loop-left.at a.s.now) (omega arith)))

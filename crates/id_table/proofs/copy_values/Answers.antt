@@ -12,19 +12,17 @@ loop-left-init c = (search rules, search rules, refl, refl)
 
 pub loop-left-preserved : goal.loop-left-preserved
 loop-left-preserved c =
-    let p = c in
-    let l = c in
-    let file = l.args.file.now in
-    let same = ap length p.put_u32.ensures ∙ put-length l.loop-left.settings l.loop-left.to _ in (
+    let file = c.args.file.now in
+    let same = ap length c.put_u32.ensures ∙ put-length c.loop-left.settings c.loop-left.to _ in (
       omega arith,
       omega arith,
-      same ∙ l.loop-left.invariant.2,
-      copied_next l.loop-left.settings p.put_u32.new.out file l.loop-left.to l.loop-left.at l.loop-left.left p.u32_at-value.result
-          (λ i. (l.type_inv.file i).fits)
+      same ∙ c.loop-left.invariant.2,
+      copied_next c.loop-left.settings c.put_u32.new.out file c.loop-left.to c.loop-left.at c.loop-left.left c.u32_at-value.result
+          (λ i. (c.type_inv.file i).fits)
           (omega arith) (omega arith) (omega arith)
-          p.u32_at-value.ensures
-          p.put_u32.ensures
-          ∙ l.loop-left.invariant.3,
+          c.u32_at-value.ensures
+          c.put_u32.ensures
+          ∙ c.loop-left.invariant.3,
     )
 
 pub shape_of-settings : goal.shape_of-settings
@@ -32,6 +30,5 @@ shape_of-settings c = c.loop-left.invariant.2
 
 pub returns : goal.returns
 returns c =
-    let l = c in
-    let file = l.args.file.now in
-    sym (over_none l.loop-left.settings l.loop-left.to) ∙ rw (groups_none 5 l.loop-left.left (drop l.loop-left.at file) (omega arith)) at l.loop-left.invariant.3
+    let file = c.args.file.now in
+    sym (over_none c.loop-left.settings c.loop-left.to) ∙ rw (groups_none 5 c.loop-left.left (drop c.loop-left.at file) (omega arith)) at c.loop-left.invariant.3

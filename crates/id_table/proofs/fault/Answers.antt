@@ -14,19 +14,14 @@ values c = groups c.args.step count (drop c.args.from c.args.s.now)
 
 pub returns-then-not-are_values : goal.returns-then-not-are_values
 returns-then-not-are_values c =
-    let start = c in
     sym (ap fault_of (checked-bad (values (goal.at.returns-then-not-are_values c).Start) (sym c.are_values.ensures ∙ c.if-not-are_values.true)))
 
 pub returns-then-two_equal : goal.returns-then-two_equal
 returns-then-two_equal c =
-    let one = c in
-    let start = c in
-    let good = sym one.are_values.ensures ∙ one.if-not-are_values.false in
+    let good = sym c.are_values.ensures ∙ c.if-not-are_values.false in
     sym (ap fault_of (checked-equal (values (goal.at.returns-then-two_equal c).Start) (groups-length _ _ _) good (sym c.two_equal.ensures ∙ c.if-two_equal.true)))
 
 pub returns : goal.returns
 returns c =
-    let one = c in
-    let start = c in
-    let good = sym one.are_values.ensures ∙ one.if-not-are_values.false in
+    let good = sym c.are_values.ensures ∙ c.if-not-are_values.false in
     sym (ap fault_of (checked-good (values (goal.at.returns c).Start) (groups-length _ _ _) good (sym c.two_equal.ensures ∙ c.if-two_equal.false)))

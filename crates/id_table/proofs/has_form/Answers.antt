@@ -24,17 +24,14 @@ returns-then-not-has_marks c =
 pub returns-then-not-has_marks-2 : goal.returns-then-not-has_marks-2
 unfolding formed
 returns-then-not-has_marks-2 c =
-    let one = c in
-    let good = sym one.has_marks.ensures ∙ one.if-not-has_marks.false in
+    let good = sym c.has_marks.ensures ∙ c.if-not-has_marks.false in
     let bad = sym c.has_marks-2.ensures ∙ c.if-not-has_marks-2.true in
-    rw (eq-eqb _ _ one.if-file-ne-FILE.false, good, bad)
+    rw (eq-eqb _ _ c.if-file-ne-FILE.false, good, bad)
 
 pub returns : goal.returns
 unfolding formed
 returns c =
-    let two = c in
-    let one = c in
-    let good = sym one.has_marks.ensures ∙ one.if-not-has_marks.false in
-    let good2 = sym two.has_marks-2.ensures ∙ two.if-not-has_marks-2.false in
-    let file = one.args.file.now in
-    rw (eq-eqb _ _ one.if-file-ne-FILE.false, good, good2) (c.has_names.ensures ∙ ap (same_all (groups 5 count file)) names-heading)
+    let good = sym c.has_marks.ensures ∙ c.if-not-has_marks.false in
+    let good2 = sym c.has_marks-2.ensures ∙ c.if-not-has_marks-2.false in
+    let file = c.args.file.now in
+    rw (eq-eqb _ _ c.if-file-ne-FILE.false, good, good2) (c.has_names.ensures ∙ ap (same_all (groups 5 count file)) names-heading)

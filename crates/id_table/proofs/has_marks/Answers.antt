@@ -11,18 +11,15 @@ loop-left-init c = (search rules, search rules, refl)
 
 pub returns-then-s-at-ne44 : goal.returns-then-s-at-ne44
 returns-then-s-at-ne44 c =
-    let l = c in
-    sym (l.loop-left.invariant.2 ∙ rw (marked_next l.loop-left.left l.args.s.now l.loop-left.at (omega arith), ne_eqb _ _ c.if-s-at-ne44.true))
+    sym (c.loop-left.invariant.2 ∙ rw (marked_next c.loop-left.left c.args.s.now c.loop-left.at (omega arith), ne_eqb _ _ c.if-s-at-ne44.true))
 
 pub loop-left-preserved : goal.loop-left-preserved
-loop-left-preserved c =
-    let l = c in (
-      omega arith,
-      omega arith,
-      l.loop-left.invariant.2 ∙ rw (marked_next l.loop-left.left l.args.s.now l.loop-left.at (omega arith), eq-eqb _ _ c.if-s-at-ne44.false),
-    )
+loop-left-preserved c = (
+  omega arith,
+  omega arith,
+  c.loop-left.invariant.2 ∙ rw (marked_next c.loop-left.left c.args.s.now c.loop-left.at (omega arith), eq-eqb _ _ c.if-s-at-ne44.false),
+)
 
 pub returns : goal.returns
 returns c =
-    let l = c in
-    sym (l.loop-left.invariant.2 ∙ marked-last l.loop-left.left l.args.s.now l.loop-left.at (omega arith))
+    sym (c.loop-left.invariant.2 ∙ marked-last c.loop-left.left c.args.s.now c.loop-left.at (omega arith))

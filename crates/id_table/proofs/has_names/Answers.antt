@@ -26,33 +26,30 @@ loop-left-init c = (search rules, search rules, refl)
 
 pub returns-then-u32_at : goal.returns-then-u32_at
 returns-then-u32_at c =
-    let l = c in
     sym
-    (l.loop-left.invariant.2
+    (c.loop-left.invariant.2
     ∙ rw (
-      groups-next 5 l.loop-left.left c.args.line.now l.loop-left.at (omega arith),
-      groups-next 4 l.loop-left.left c.args.names.now l.loop-left.name (omega arith),
+      groups-next 5 c.loop-left.left c.args.line.now c.loop-left.at (omega arith),
+      groups-next 4 c.loop-left.left c.args.names.now c.loop-left.name (omega arith),
       compared (goal.at.returns-then-u32_at c).After-u32_at-in-loop-left,
       ne_eqb _ _ c.if-u32_at.true,
     ))
 
 pub loop-left-preserved : goal.loop-left-preserved
-loop-left-preserved c =
-    let l = c in (
-      omega arith,
-      omega arith,
-      l.loop-left.invariant.2
-          ∙ rw (
-            groups-next 5 l.loop-left.left c.args.line.now l.loop-left.at (omega arith),
-            groups-next 4 l.loop-left.left c.args.names.now l.loop-left.name (omega arith),
-            compared (goal.at.loop-left-preserved c).After-u32_at-in-loop-left,
-            eq-eqb _ _ c.if-u32_at.false,
-          ),
-    )
+loop-left-preserved c = (
+  omega arith,
+  omega arith,
+  c.loop-left.invariant.2
+      ∙ rw (
+        groups-next 5 c.loop-left.left c.args.line.now c.loop-left.at (omega arith),
+        groups-next 4 c.loop-left.left c.args.names.now c.loop-left.name (omega arith),
+        compared (goal.at.loop-left-preserved c).After-u32_at-in-loop-left,
+        eq-eqb _ _ c.if-u32_at.false,
+      ),
+)
 
 pub returns : goal.returns
 returns c =
-    let l = c in
     sym
-    (l.loop-left.invariant.2
-    ∙ rw (groups_none 5 l.loop-left.left (drop l.loop-left.at c.args.line.now) (omega arith), groups_none 4 l.loop-left.left (drop l.loop-left.name c.args.names.now) (omega arith)))
+    (c.loop-left.invariant.2
+    ∙ rw (groups_none 5 c.loop-left.left (drop c.loop-left.at c.args.line.now) (omega arith), groups_none 4 c.loop-left.left (drop c.loop-left.name c.args.names.now) (omega arith)))

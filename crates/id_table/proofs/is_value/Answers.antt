@@ -5,35 +5,25 @@ use Rattle.id_table.proofs.is_value.Goals as goal
 
 pub returns-then-not-is_letter : goal.returns-then-not-is_letter
 returns-then-not-is_letter c =
-    let start = c in
     let bad = sym c.is_letter.ensures ∙ c.if-not-is_letter.true in
-    rw (value_in start.args.s.now start.args.at start.requires, bad)
+    rw (value_in c.args.s.now c.args.at c.requires, bad)
 
 pub returns-then-not-is_letter-2 : goal.returns-then-not-is_letter-2
 returns-then-not-is_letter-2 c =
-    let one = c in
-    let start = c in
-    let good = sym one.is_letter.ensures ∙ one.if-not-is_letter.false in
+    let good = sym c.is_letter.ensures ∙ c.if-not-is_letter.false in
     let bad = sym c.is_letter-2.ensures ∙ c.if-not-is_letter-2.true in
-    rw (value_in start.args.s.now start.args.at start.requires, good, bad)
+    rw (value_in c.args.s.now c.args.at c.requires, good, bad)
 
 pub returns-then-not-is_letter-3 : goal.returns-then-not-is_letter-3
 returns-then-not-is_letter-3 c =
-    let two = c in
-    let one = c in
-    let start = c in
-    let good = sym one.is_letter.ensures ∙ one.if-not-is_letter.false in
-    let good2 = sym two.is_letter-2.ensures ∙ two.if-not-is_letter-2.false in
+    let good = sym c.is_letter.ensures ∙ c.if-not-is_letter.false in
+    let good2 = sym c.is_letter-2.ensures ∙ c.if-not-is_letter-2.false in
     let bad = sym c.is_letter-3.ensures ∙ c.if-not-is_letter-3.true in
-    rw (value_in start.args.s.now start.args.at start.requires, good, good2, bad)
+    rw (value_in c.args.s.now c.args.at c.requires, good, good2, bad)
 
 pub returns : goal.returns
 returns c =
-    let three = c in
-    let two = c in
-    let one = c in
-    let start = c in
-    let good = sym one.is_letter.ensures ∙ one.if-not-is_letter.false in
-    let good2 = sym two.is_letter-2.ensures ∙ two.if-not-is_letter-2.false in
-    let good3 = sym three.is_letter-3.ensures ∙ three.if-not-is_letter-3.false in
-    rw (value_in start.args.s.now start.args.at start.requires, good, good2, good3) c.is_letter-4.ensures
+    let good = sym c.is_letter.ensures ∙ c.if-not-is_letter.false in
+    let good2 = sym c.is_letter-2.ensures ∙ c.if-not-is_letter-2.false in
+    let good3 = sym c.is_letter-3.ensures ∙ c.if-not-is_letter-3.false in
+    rw (value_in c.args.s.now c.args.at c.requires, good, good2, good3) c.is_letter-4.ensures

@@ -32,9 +32,8 @@ returns-then-settings-ne-SETTINGS c = rw (ne_eqb _ _ c.if-settings-ne-SETTINGS.t
 pub returns-then-not-has_form : goal.returns-then-not-has_form
 unfolding loaded
 returns-then-not-has_form c =
-    let start = c in
     let bad = sym c.has_form.ensures ∙ c.if-not-has_form.true in
-    rw (eq-eqb _ _ c.if-settings-ne-SETTINGS.false, read-places start.args.file.now, bad)
+    rw (eq-eqb _ _ c.if-settings-ne-SETTINGS.false, read-places c.args.file.now, bad)
 
 pub fault-why-requires : goal.fault-why-requires
 fault-why-requires c = let n = has-size c in (search rules, omega arith)
@@ -42,10 +41,8 @@ fault-why-requires c = let n = has-size c in (search rules, omega arith)
 pub returns-then-why-ne0 : goal.returns-then-why-ne0
 unfolding loaded
 returns-then-why-ne0 c =
-    let one = c in
-    let start = c in
     let why = refused-by (values (goal.at.returns-then-why-ne0 c).Start) c.fault-why.result c.fault-why.ensures c.if-why-ne0.true in
-    rw (eq-eqb _ _ one.if-settings-ne-SETTINGS.false, read-places start.args.file.now, has-form (goal.at.returns-then-why-ne0 c).Else-not-has_form, why)
+    rw (eq-eqb _ _ c.if-settings-ne-SETTINGS.false, read-places c.args.file.now, has-form (goal.at.returns-then-why-ne0 c).Else-not-has_form, why)
 
 pub copy_values-requires : goal.copy_values-requires
 copy_values-requires c = (search rules, has-size (goal.at.copy_values-requires c).Else-not-has_form)
@@ -53,9 +50,6 @@ copy_values-requires c = (search rules, has-size (goal.at.copy_values-requires c
 pub returns : goal.returns
 unfolding loaded
 returns c =
-    let two = c in
-    let one = c in
-    let start = c in
-    let right = taken-by (values (goal.at.returns c).Start) two.fault-why.result (groups-length 5 count _) two.fault-why.ensures two.if-why-ne0.false in
-    rw (eq-eqb _ _ one.if-settings-ne-SETTINGS.false, read-places start.args.file.now, has-form (goal.at.returns c).Else-not-has_form, right)
+    let right = taken-by (values (goal.at.returns c).Start) c.fault-why.result (groups-length 5 count _) c.fault-why.ensures c.if-why-ne0.false in
+    rw (eq-eqb _ _ c.if-settings-ne-SETTINGS.false, read-places c.args.file.now, has-form (goal.at.returns c).Else-not-has_form, right)
     (ap (λ (l : List ℕ). (l, 0)) c.copy_values.ensures)

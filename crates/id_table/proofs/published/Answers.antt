@@ -21,9 +21,8 @@ returns-then-settings-ne-SETTINGS c = rw (ne_eqb _ _ c.if-settings-ne-SETTINGS.t
 pub returns : goal.returns
 unfolding begun
 returns c =
-    let cleared = c in
-    let e = cleared.if-settings-ne-SETTINGS.false in
+    let e = c.if-settings-ne-SETTINGS.false in
     rw (eq-eqb _ _ e)
     (ap (λ (l : List ℕ). (l, 0))
     (c.put_bytes.ensures
-    ∙ rw (cleared.clear.ensures, e) begins))
+    ∙ rw (c.clear.ensures, e) begins))

@@ -22,18 +22,15 @@ loop-left-init c = (search rules, refl)
 
 pub returns-then-u32_at-value : goal.returns-then-u32_at-value
 returns-then-u32_at-value c =
-    let l = c in
-    let a = l.args in
-    sym (l.loop-left.invariant.1 ∙ rw (groups-next a.step l.loop-left.left a.s.now l.loop-left.next (omega arith), compared (goal.at.returns-then-u32_at-value c).After-u32_at, eq-eqb _ _ c.if-u32_at-value.true))
+    let a = c.args in
+    sym (c.loop-left.invariant.1 ∙ rw (groups-next a.step c.loop-left.left a.s.now c.loop-left.next (omega arith), compared (goal.at.returns-then-u32_at-value c).After-u32_at, eq-eqb _ _ c.if-u32_at-value.true))
 
 pub loop-left-preserved : goal.loop-left-preserved
 loop-left-preserved c =
-    let l = c in
-    let a = l.args in
-    (omega arith, l.loop-left.invariant.1 ∙ rw (groups-next a.step l.loop-left.left a.s.now l.loop-left.next (omega arith), compared (goal.at.loop-left-preserved c).After-u32_at, ne_eqb _ _ c.if-u32_at-value.false))
+    let a = c.args in
+    (omega arith, c.loop-left.invariant.1 ∙ rw (groups-next a.step c.loop-left.left a.s.now c.loop-left.next (omega arith), compared (goal.at.loop-left-preserved c).After-u32_at, ne_eqb _ _ c.if-u32_at-value.false))
 
 pub returns : goal.returns
 returns c =
-    let l = c in
-    let a = l.args in
-    sym (l.loop-left.invariant.1 ∙ rw (groups_none a.step l.loop-left.left (drop l.loop-left.next a.s.now) (omega arith)))
+    let a = c.args in
+    sym (c.loop-left.invariant.1 ∙ rw (groups_none a.step c.loop-left.left (drop c.loop-left.next a.s.now) (omega arith)))

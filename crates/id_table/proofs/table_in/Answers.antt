@@ -23,13 +23,11 @@ returns-then-why-ne0 c =
 pub returns : goal.returns
 unfolding lent_in
 returns c =
-    let quit = c in
-    let one = c in
-    let s = one.args.settings.now in
-    let right = taken-by (groups 4 count s) one.fault-why.result (groups-length 4 count s) one.fault-why.ensures one.if-why-ne0.false in
-    rw (eq-eqb _ _ one.if-settings-ne-SETTINGS.false, in_groups s, right)
+    let s = c.args.settings.now in
+    let right = taken-by (groups 4 count s) c.fault-why.result (groups-length 4 count s) c.fault-why.ensures c.if-why-ne0.false in
+    rw (eq-eqb _ _ c.if-settings-ne-SETTINGS.false, in_groups s, right)
     (rw (
-      quit.u32_at-quit.ensures,
+      c.u32_at-quit.ensures,
       c.u64_at.ensures,
       c.u64_at-2.ensures,
       c.u64_at-3.ensures,
@@ -38,4 +36,4 @@ returns c =
       c.u64_at-6.ensures,
       c.u64_at-7.ensures,
     )
-    (ap L.Ids (numbers-in s one.if-settings-ne-SETTINGS.false)))
+    (ap L.Ids (numbers-in s c.if-settings-ne-SETTINGS.false)))

@@ -11,20 +11,17 @@ loop-left-init c = (search rules, refl)
 
 pub returns-then-stands_again : goal.returns-then-stands_again
 returns-then-stands_again c =
-    let l = c in
-    let a = l.args in
+    let a = c.args in
     let found = sym c.stands_again.ensures ∙ c.if-stands_again.true in
-    sym (l.loop-left.invariant.1 ∙ rw (groups-next a.step l.loop-left.left a.s.now l.loop-left.at (omega arith), found))
+    sym (c.loop-left.invariant.1 ∙ rw (groups-next a.step c.loop-left.left a.s.now c.loop-left.at (omega arith), found))
 
 pub loop-left-preserved : goal.loop-left-preserved
 loop-left-preserved c =
-    let l = c in
-    let a = l.args in
+    let a = c.args in
     let missed = sym c.stands_again.ensures ∙ c.if-stands_again.false in
-    (omega arith, l.loop-left.invariant.1 ∙ rw (groups-next a.step l.loop-left.left a.s.now l.loop-left.at (omega arith), missed))
+    (omega arith, c.loop-left.invariant.1 ∙ rw (groups-next a.step c.loop-left.left a.s.now c.loop-left.at (omega arith), missed))
 
 pub returns : goal.returns
 returns c =
-    let l = c in
-    let a = l.args in
-    sym (l.loop-left.invariant.1 ∙ rw (groups_none a.step l.loop-left.left (drop l.loop-left.at a.s.now) (omega arith)))
+    let a = c.args in
+    sym (c.loop-left.invariant.1 ∙ rw (groups_none a.step c.loop-left.left (drop c.loop-left.at a.s.now) (omega arith)))
