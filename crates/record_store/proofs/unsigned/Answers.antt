@@ -31,7 +31,7 @@ below c = rw (same c.before) (negative c.args.z (rw (same c.before) at c.if-z-lt
 
 -- ... and the difference's
 beyond : (c : Then-z-lt0) → to_z w64 (of_z w64 (negsuc 0 -ℤ to_z w64 (of_z w64 c.args.z))) ≡ pos (mag c.args.z)
-beyond c = to_z-of_z (rw (below c) (sfits_of c.ranges.z.sfits)) ∙ below c
+beyond c = to_z-of_z {w = w64} (rw (below c) (sfits_of c.ranges.z.sfits)) ∙ below c
 
 pub overflow_sub-beyond : goal.overflow_sub-beyond
 overflow_sub-beyond c = rw (below (goal.at.overflow_sub-beyond c).Then-z-lt0) (sfits_of c.ranges.z.sfits)
