@@ -1,4 +1,4 @@
--- `panel_writer::has_room` meets its contract. Assumes nothing.
+-- `panel_writer::has_room` meets its contract.
 use mathlib.Core.Path.{◌≡◌, sym, ◌∙◌}
 use Prim.Native.Nat.{ℕ, ◌+◌, ◌-◌, ◌≤◌}
 use native.Mathlib.Decide.{dec_le}
@@ -6,8 +6,7 @@ use native.Mathlib.Nat.{lt_of_not-le}
 use native.Mathlib.Omega.{arith}
 use borrow.Author.Tests.{lt-ltb, le-ltb, le-leb, lt-leb}
 use lib.Dec.{leb}
-use Rattle.panel_writer.proofs.has_room.Statement.{statement}
-use Rattle.panel_writer.proofs.has_room.Tie as tie
+use Rattle.panel_writer.proofs.has_room.Goals as goal
 
 behind : (room fixed lent : ℕ) → fixed ≤ room → leb lent (room - fixed) ≡ leb (fixed + lent) room
 behind room fixed lent h = go (dec_le (fixed + lent) room)
@@ -16,18 +15,15 @@ behind room fixed lent h = go (dec_le (fixed + lent) room)
     go (yes f) = le-leb lent (room - fixed) (omega arith) ∙ sym (le-leb (fixed + lent) room f)
     go (no f) = let g = lt_of_not-le f in lt-leb lent (room - fixed) (omega arith) ∙ sym (lt-leb (fixed + lent) room g)
 
-returns : tie.Need-returns
-returns c = rw (le-ltb _ _ c.if1.true)
+pub returns-then-lent-ge-TOO_LONG : goal.returns-then-lent-ge-TOO_LONG
+returns-then-lent-ge-TOO_LONG c = rw (le-ltb _ _ c.if-lent-ge-TOO_LONG.true)
 
-returns-2 : tie.Need-returns-2
-returns-2 c =
-    let a = c.before.before.args in
-    rw (lt-ltb _ _ c.before.if1.false, lt-leb (a.fixed + a.lent) a.room (omega arith))
+pub returns-then-room-fixed : goal.returns-then-room-fixed
+returns-then-room-fixed c =
+    let a = c.args in
+    rw (lt-ltb _ _ c.if-lent-ge-TOO_LONG.false, lt-leb (a.fixed + a.lent) a.room (omega arith))
 
-returns-3 : tie.Need-returns-3
-returns-3 c =
-    let a = c.before.before.args in
-    rw (lt-ltb _ _ c.before.if1.false) (behind a.room a.fixed a.lent c.if2.false)
-
-pub has-room-spec : {M : Type 1} → statement M
-has-room-spec = tie.close (tie.spec returns returns-2 returns-3)
+pub returns : goal.returns
+returns c =
+    let a = c.args in
+    rw (lt-ltb _ _ c.if-lent-ge-TOO_LONG.false) (behind a.room a.fixed a.lent c.if-room-fixed.false)
