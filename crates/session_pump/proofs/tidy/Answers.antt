@@ -1,19 +1,14 @@
--- `session_pump::tidy` meets its contract. Assumes nothing.
+-- `session_pump::tidy` meets its contract.
 use mathlib.Core.List.{List}
 use mathlib.Core.Path.{ap, ◌∙◌}
 use Prim.Native.Nat.{ℕ}
-use borrow.Author.Rules.{rules}
 use Rattle.recv_buf.specs.declared.RecvBuf.{RecvBuf}
 use Rattle.session.specs.State.{st, at}
 use Rattle.session.specs.declared.Pending.TheVariants.{Idle}
 use Rattle.session_pump.proofs.Parts.{st-eq}
-use Rattle.session_pump.proofs.tidy.Statement.{statement}
-use Rattle.session_pump.proofs.tidy.Tie as tie
+use Rattle.session_pump.proofs.tidy.Goals as goal
 
-returns : tie.Need-returns
+pub returns : goal.returns
 returns c msg =
     let a = c.before.before.before.before.before.before.before.args in
     st-eq _ msg c.at.ensures ∙ ap (λ (z : List ℕ × RecvBuf). st (at a.s z.1 Idle) z.0 msg) c.before.before.before.compact.ensures
-
-pub tidy-spec : {M : Type 1} → statement M
-tidy-spec = tie.close (tie.spec (λ c κs. search rules) (λ c κs. search rules) (λ c. search rules) returns)
