@@ -33,17 +33,18 @@ held : (c : After-number-head)
     → let a = c.args in
     take (c.met-end.result - c.number-head.result) (drop c.number-head.result a.rx.now) ≡ came_in a.rec.now a.rx.now a.count
 held c =
-    let s = c in
-    let a = s.args in
-    let e = (end c.before.before).1 in
-    held-part a.rx.now (number_in a.rec.now 2) (number_in a.rec.now 3 + a.count) (omega (arith, s.requires.1)) (omega (arith, e)) _ _ c.number-head.ensures e
+    let a = c.args in
+    let e = (met_at a.rec.now a.rx.now a.count _ c.met-end.ensures (omega arith)).1 in
+    held-part a.rx.now (number_in a.rec.now 2) (number_in a.rec.now 3 + a.count) (omega (arith, c.requires.1)) (omega (arith, e)) _ _ c.number-head.ensures e
 
 read : (c : After-short_len-whole)
     → let a = c.args in
     c.short_len-whole.result ≡ short_length (dialect_held a.rec.now) (came_in a.rec.now a.rx.now a.count) (length a.rx.now)
 read c =
     let a = c.args in
-    c.short_len-whole.ensures ∙ ap (λ (x : List ℕ). short_length (dialect_held a.rec.now) x (length a.rx.now)) (held c.before.before)
+    let e = (met_at a.rec.now a.rx.now a.count _ c.met-end.ensures (omega arith)).1 in
+    let h = held-part a.rx.now (number_in a.rec.now 2) (number_in a.rec.now 3 + a.count) (omega (arith, c.requires.1)) (omega (arith, e)) _ _ c.number-head.ensures e in
+    c.short_len-whole.ensures ∙ ap (λ (x : List ℕ). short_length (dialect_held a.rec.now) x (length a.rx.now)) h
 
 -- the chunk that they begin
 begins : (c : Else-whole-eq0)
@@ -52,7 +53,9 @@ begins : (c : Else-whole-eq0)
     (body_short (dialect_held a.rec.now) x (length a.rx.now) ≡ true) × (c.short_len-whole.result ≡ 8 + arg_at x)
 begins c =
     let a = c.args in
-    short-at (dialect_held a.rec.now) (came_in a.rec.now a.rx.now a.count) (length a.rx.now) _ (read c.before) (omega arith)
+    let e = (met_at a.rec.now a.rx.now a.count _ c.met-end.ensures (omega arith)).1 in
+    let h = held-part a.rx.now (number_in a.rec.now 2) (number_in a.rec.now 3 + a.count) (omega (arith, c.requires.1)) (omega (arith, e)) _ _ c.number-head.ensures e in
+    short-at (dialect_held a.rec.now) (came_in a.rec.now a.rx.now a.count) (length a.rx.now) _ (c.short_len-whole.ensures ∙ ap (λ (x : List ℕ). short_length (dialect_held a.rec.now) x (length a.rx.now)) h) (omega arith)
 
 pub returns-then-end-eq0 : goal.returns-then-end-eq0
 returns-then-end-eq0 c =

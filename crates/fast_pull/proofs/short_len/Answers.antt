@@ -27,7 +27,9 @@ tests c =
 is : (c : Then-heads)
     → let a = c.args in
     heads (dialect_held a.rec.now) ((dialect_held a.rec.now).bytes DATA) a.x.now ≡ true
-is c = sym (tests c.before) ∙ c.if-heads.true
+is c =
+    let a = c.args in
+    sym (c.heads.ensures ∙ ap (λ (n : ℕ). heads (dialect_held a.rec.now) (bytes_of 4 n) a.x.now) c.id_in.ensures) ∙ c.if-heads.true
 
 -- the length of the body
 arg : (c : After-u32_at-n)
@@ -35,7 +37,8 @@ arg : (c : After-u32_at-n)
     c.u32_at-n.result ≡ arg_at a.x.now
 arg c =
     let a = c.args in
-    let w = heads-of (dialect_held a.rec.now) ((dialect_held a.rec.now).bytes DATA) a.x.now (is c.before) in
+    let header = sym (c.heads.ensures ∙ ap (λ (n : ℕ). heads (dialect_held a.rec.now) (bytes_of 4 n) a.x.now) c.id_in.ensures) ∙ c.if-heads.true in
+    let w = heads-of (dialect_held a.rec.now) ((dialect_held a.rec.now).bytes DATA) a.x.now header in
     c.u32_at-n.ensures ∙ u32_read a.x.now 4 (omega (arith, w.sized))
 
 pub returns-then-capacity-whole : goal.returns-then-capacity-whole
