@@ -10,5 +10,5 @@ use Rattle.session_pump.proofs.tidy.Goals as goal
 
 pub returns : goal.returns
 returns c msg =
-    let a = c.before.before.before.before.before.before.before.args in
-    st-eq _ msg c.at.ensures ∙ ap (λ (z : List ℕ × RecvBuf). st (at a.s z.1 Idle) z.0 msg) c.before.before.before.compact.ensures
+    let a = c.args in
+    st-eq _ msg c.at.ensures ∙ ap (λ (z : List ℕ × RecvBuf). st (at a.s z.1 Idle) z.0 msg) c.compact-front.ensures
