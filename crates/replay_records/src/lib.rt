@@ -1,5 +1,7 @@
 // A recording of calls, as numbers: its text is lines of hexadecimal digits, its bytes a record behind the other. What a record holds
 // stands at the top of rust/oracle/src/record.rs.
+#![tactic(auto)]
+
 ghost use Rattle.std.specs.Prelude.{◌<◌, ◌≤◌, length};
 
 use format_number::{put_bytes, u32_at};
@@ -25,7 +27,7 @@ fn digit(b: u8) -> u8
 }
 
 // What stands at a place of the text: a byte of two digits, or the end of a line.
-#[derive(Drop)]
+#[derive(Clone, Copy)]
 struct Pair {
     byte: u8,
     size: usize,
@@ -102,7 +104,7 @@ fn fill(out: &mut [u8], from: usize, to: usize, b: u8)
 }
 
 // Where a field ends, and how many bytes it gave.
-#[derive(Drop)]
+#[derive(Clone, Copy)]
 struct Taken {
     at: usize,
     len: usize,
@@ -149,7 +151,7 @@ fn unpack(s: &[u8], at: usize, out: &mut [u8]) -> Taken
 }
 
 // What was reported: 0 accepted, 1 closed, 2 an error with its code.
-#[derive(Drop)]
+#[derive(Clone, Copy)]
 struct Report {
     kind: u8,
     code: u32,
@@ -180,7 +182,7 @@ fn report_at(s: &[u8], at: usize) -> Report
 
 // A record's numbers, how many bytes it gave, and where it ends. Its number is the call's, what is asked, or the byte that fills the buffers;
 // a and b are the call's two numbers, where a window or a piece starts and how long the window is, or how long the buffers are.
-#[derive(Drop)]
+#[derive(Clone, Copy)]
 pub struct Record {
     pub kind: u8,
     pub number: u8,
@@ -242,7 +244,7 @@ fn came_at(s: &[u8], r: Report, out: &mut [u8]) -> Taken
 }
 
 // A read: where the window starts, how long it is, what was reported, and the bytes that came.
-fn read_at_lem(s: &[u8], at: usize, out: &mut [u8]) -> Record
+fn read_at(s: &[u8], at: usize, out: &mut [u8]) -> Record
     requires { at ≤ length s.now }
     ensures { at ≤ result.end }
 {
@@ -332,7 +334,7 @@ fn record_at(s: &[u8], kind: u8, at: usize, out: &mut [u8]) -> Record
 {
     match kind {
         1 => list_at(s, at, out),
-        3 => read_at_lem(s, at, out),
+        3 => read_at(s, at, out),
         4 => write_at(s, at, out),
         5 => close_at(s, at),
         6 => told_at(s, kind, at, answer_size(s, at), out),

@@ -1,0 +1,9 @@
+-- `replay_records::decode`: the count stays within out.
+use Rattle.std.proofs.Common.{length, ◌-◌, ◌≤◌, ◌+◌}
+use Rattle.replay_records.proofs.decode.Given as goal
+
+abbrev pub invariant-loop-i : goal.invariant-loop-i
+invariant-loop-i l = (l.n ≤ length l.out) × (l.i ≤ length l.text + 1)
+
+abbrev pub decreases-loop-i : goal.decreases-loop-i
+decreases-loop-i l = length l.text - l.i
