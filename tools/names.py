@@ -113,8 +113,12 @@ def main():
     for name, to in kept:
         print(f"kept: {name}, since {to} is taken")
 
-    def code(text):
-        return TOKEN.sub(lambda m: new.get(m[0], m[0]), text)
+    def code(text, source=False):
+        def word(m):
+            of_function = text[: m.start()].endswith(("proofs.", "contracts.")) or source and re.fullmatch(r"[a-z_0-9]+", m[0])
+            return m[0] if of_function else new.get(m[0], m[0])
+
+        return TOKEN.sub(word, text)
 
     def words_of_prose(text):
         text = re.sub(r"`[^`\n]*`", lambda m: code(m[0]), text)
@@ -131,7 +135,7 @@ def main():
                 at = len(line) if mark not in line else line.index(mark)
                 if mark == "#" and not line.startswith("#"):
                     at = len(line)
-                lines.append(code(line[:at]) + words_of_prose(line[at:]))
+                lines.append(code(line[:at], mark == "//") + words_of_prose(line[at:]))
             to = "\n".join(lines)
         if to != text:
             open(path, "w", encoding="utf-8").write(to)

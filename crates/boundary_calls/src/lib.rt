@@ -1,4 +1,6 @@
 // Calls and faults by the numbers that cross.
+#![tactic(auto)]
+
 ghost use Rattle.std.specs.Prelude.{◌≡◌};
 ghost use Rattle.boundary.specs.Crossing.{request_numbered, call_numbered, step_numbered, unknown_call, fault_numbered};
 ghost use Rattle.session.specs.State as S;
@@ -10,7 +12,7 @@ use session::{Answer, Fault, Session, Stepped, Version};
 use session_calls::{call_refusal, next_entry, recv_next, start};
 
 // The request that a call's number stands for, with its mode or time and its flags.
-#[derive(Drop)]
+#[derive(Clone, Copy)]
 enum Asked {
     Request(Request),
     Other,

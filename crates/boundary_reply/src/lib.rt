@@ -1,4 +1,6 @@
 // What a step asks or tells, as it crosses to the host: a number, and bytes at the front of a lent slice.
+#![tactic(auto)]
+
 ghost use Rattle.std.specs.Prelude.{List, [], ◌∷◌, ◌++◌, ◌≡◌, ℕ, ◌≤◌, length};
 ghost use Rattle.protocol.specs.Bytes.{put, le};
 ghost use Rattle.protocol.specs.Decimal.{decimal};

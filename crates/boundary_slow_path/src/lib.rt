@@ -1,4 +1,6 @@
 // The slow path of a step: the session is loaded from its record, steps, and is stored again.
+#![tactic(auto)]
+
 ghost use Rattle.std.specs.Prelude.{◌≡◌};
 ghost use Rattle.boundary.specs.Crossing.{crossed, cross_start, cross_wrote, cross_fault};
 ghost use Rattle.boundary_slow_path.specs.Slow.{slow_read};

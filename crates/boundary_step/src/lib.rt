@@ -1,4 +1,6 @@
 // A session in a lent record of 256 bytes: opening, and its steps, by a fast path where one can be taken and else by the slow one.
+#![tactic(auto)]
+
 ghost use Rattle.std.specs.Prelude.{◌≡◌, length};
 ghost use Rattle.boundary.specs.Crossing.{crossed, cross_open, cross_start, cross_read, cross_wrote, cross_fault};
 ghost use Rattle.record.specs.Record.{loaded};

@@ -1,4 +1,6 @@
 // A step's outcome, put back into the lent record and the slice of the reply.
+#![tactic(auto)]
+
 ghost use Rattle.std.specs.Prelude.{List, ◌≡◌, ℕ};
 ghost use Rattle.boundary.specs.Crossing.{crossed, is_refusal};
 ghost use Rattle.session.specs.State as S;

@@ -1,4 +1,6 @@
 // The date, weekday and minute of a moment, into a lent slice (document 02, [10]).
+#![tactic(auto)]
+
 ghost use Rattle.std.specs.Prelude.{◌≡◌, ◌<◌, ◌≤◌};
 ghost use Rattle.protocol.specs.Bytes.{put};
 ghost use Rattle.calendar.specs.Calendar.{date, leap, year_length, february, month_length, month_from, date_of};
@@ -34,14 +36,14 @@ const LEAP_YEAR: u32 = 366;
 const LAST_MONTH: u32 = 12;
 
 // A day by its year, from 0 on.
-#[derive(Drop)]
+#[derive(Clone, Copy)]
 struct YearDay {
     year: u32,
     day: u32,
 }
 
 // A day by its year and month, from 1 on.
-#[derive(Drop)]
+#[derive(Clone, Copy)]
 struct MonthDay {
     year: u32,
     month: u32,

@@ -1,4 +1,6 @@
 // A u32 as decimal digits (000's base/decimal.rs), and back; digits of another base read.
+#![tactic(auto)]
+
 ghost use Rattle.std.specs.Prelude.{◌≡◌, List, ℕ, ◌≤◌, length};
 ghost use Rattle.protocol.specs.Bytes.{over, put, put_length};
 ghost use Rattle.protocol.specs.Decimal.{decimal, canonical};
@@ -44,7 +46,7 @@ pub fn format_u32(n: u32, out: &mut [u8]) -> usize
     count
 }
 
-#[derive(Drop)]
+#[derive(Clone, Copy)]
 pub enum Parsed {
     Number(u32),
     Invalid,

@@ -1,6 +1,8 @@
 // The exported functions: a session with totals and hours in a lent record, both buffers, what is lent, and a slice for the reply; settings with ids and
 // hours, and the date of a moment; an index of a listing's entries by their times, in lent slots and an area; and the panel's side, a reply said and a
 // request heard.
+#![tactic(auto)]
+
 ghost use Rattle.std.specs.Prelude.{◌≡◌};
 ghost use Rattle.boundary.specs.Crossing.{crossed, set, cross_settings, cross_ids};
 ghost use Rattle.boundary_step.specs.Opened.{open_crossed};

@@ -1,5 +1,7 @@
 // The steps of a pull's chunk, taken at once on the numbers of a lent record (as in `fast_replies`): its header is awaited, its body is awaited,
 // and it is told.
+#![tactic(auto)]
+
 ghost use Rattle.std.specs.Prelude.{◌≡◌, ℕ, ◌≤◌, length};
 ghost use Rattle.boundary.specs.Crossing.{crossed, cross_start, cross_read};
 ghost use Rattle.fast_replies.specs.Direct.{tried, dialect_held};

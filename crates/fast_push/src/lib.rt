@@ -1,4 +1,6 @@
 // Steps that are taken at once, on the numbers of a lent record (as in `fast_replies`): what follows an accepted write of a DATA message.
+#![tactic(auto)]
+
 ghost use Rattle.std.specs.Prelude.{◌≡◌, ◌≤◌, eqb, length};
 ghost use Rattle.protocol.specs.Bytes.{pick};
 ghost use Rattle.protocol.specs.Messages.{data_most};

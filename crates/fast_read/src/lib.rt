@@ -1,4 +1,6 @@
 // A read that leaves its need short, told from the record's own numbers.
+#![tactic(auto)]
+
 ghost use Rattle.std.specs.Prelude.{◌≡◌};
 ghost use Rattle.record.specs.Record.{loaded};
 ghost use Rattle.fast_read.specs.Short.{tail_at, short_in};

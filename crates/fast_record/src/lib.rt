@@ -1,4 +1,6 @@
 // What the numbers of a lent record say of its session, and a session put back by them: for a step that need not load it.
+#![tactic(auto)]
+
 ghost use Rattle.std.specs.Prelude.{◌≡◌, eqb, length};
 ghost use Rattle.protocol.specs.Bytes.{pick};
 ghost use Rattle.format_id.specs.Ids.{id_of};
@@ -97,7 +99,7 @@ pub fn stands(rec: &[u8], rx: usize, msg: usize) -> bool
     if number(rec, ENDED) == 0 {
         if rx == capacity {
             if msg == message {
-                return step_in_lem(rec);
+                return step_in(rec);
             }
             return false;
         }

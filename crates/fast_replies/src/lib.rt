@@ -1,5 +1,7 @@
 // Steps that are taken at once, on the numbers of a lent record: the fast path for loading its session, stepping it and storing it again.
 // Each is tried first. Where it is not taken nothing is altered, and the slow path follows.
+#![tactic(auto)]
+
 ghost use Rattle.std.specs.Prelude.{List, ◌≡◌, ℕ, ◌≤◌, length};
 ghost use Rattle.protocol.specs.Bytes.{bytes_of, put};
 ghost use Rattle.boundary.specs.Crossing.{crossed, cross_start, cross_read};

@@ -1,5 +1,7 @@
 // A call that carries a path alone (stat, stat_v2, list, list_v2, recv) started at once, on the numbers of a lent record (as in `fast_replies`):
 // its message goes out whole, behind the held bytes. Where it is refused or does not fit nothing is altered, and the slow path follows.
+#![tactic(auto)]
+
 ghost use Rattle.std.specs.Prelude.{◌≡◌, ℕ, ◌≤◌, length};
 ghost use Rattle.boundary.specs.Crossing.{crossed, cross_start};
 ghost use Rattle.fast_replies.specs.Direct.{tried};

@@ -1,4 +1,6 @@
 // A stat's message is out: the header of its reply is awaited at once, on the numbers of a lent record (as in `fast_replies`).
+#![tactic(auto)]
+
 ghost use Rattle.std.specs.Prelude.{◌≡◌, ◌≤◌, length};
 ghost use Rattle.boundary.specs.Crossing.{crossed, cross_wrote};
 ghost use Rattle.fast_replies.specs.Direct.{tried};

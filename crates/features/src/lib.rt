@@ -1,4 +1,6 @@
 // The features that a device's banner lists (000's base/protocol/features.rs). The session's seven are gathered in one pass over the list.
+#![tactic(auto)]
+
 ghost use Rattle.std.specs.Prelude.{◌≡◌, false, [], ◌∷◌, ◌+◌, ◌≤◌, length, get_or, drop};
 ghost use Rattle.std.proofs.Math.Seq.{slice};
 ghost use Rattle.protocol.specs.Bytes.{same};
@@ -132,7 +134,7 @@ fn number_at(s: &[u8], from: usize, to: usize) -> usize
 }
 
 // Which of the session's features a banner has: numbers 1 to 7, in this order.
-#[derive(Drop)]
+#[derive(Clone, Copy)]
 pub struct Features {
     pub stat_v2: bool,
     pub ls_v2: bool,

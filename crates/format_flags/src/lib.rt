@@ -1,13 +1,15 @@
 // A file's mode and the flag word of RCV2 and SND2: both 32 bits, and neither passes for the other (000's sync/format.rs).
+#![tactic(auto)]
+
 ghost use Rattle.std.specs.Prelude.{[], ◌∷◌, map, ◌≡◌};
 ghost use Rattle.protocol.specs.Flags as Flags;
 
 // A Unix file mode: the file type and the permission bits in one number.
-#[derive(Drop)]
+#[derive(Clone, Copy)]
 pub struct FileMode(pub u32);
 
 // What a transfer asks besides: at most one packing flag, and a dry run of a push.
-#[derive(Drop)]
+#[derive(Clone, Copy)]
 pub struct SyncFlags(pub u32);
 
 impl SyncFlags {

@@ -1,4 +1,6 @@
 // The fifteen ids of sync messages (000's sync/format.rs).
+#![tactic(auto)]
+
 ghost use Rattle.std.specs.Prelude.{map, ◌≡◌, length};
 ghost use Rattle.protocol.specs.Ids.{letters, published, named};
 ghost use Rattle.protocol.specs.Ids as Ids;
@@ -6,7 +8,7 @@ ghost use Rattle.format_id.specs.Ids.{id_of, found_id};
 
 use format_number::u32_at;
 
-#[derive(Drop)]
+#[derive(Clone, Copy)]
 pub enum SyncId {
     Stat,
     Sta2,
@@ -26,7 +28,7 @@ pub enum SyncId {
 }
 
 // What four bytes are: an id, or none of the fifteen.
-#[derive(Drop)]
+#[derive(Clone, Copy)]
 pub enum Found {
     Id(SyncId),
     Nothing,

@@ -1,4 +1,6 @@
 // Numbers in bytes, the lowest byte first, and bytes copied over others (000's sync/format.rs).
+#![tactic(auto)]
+
 ghost use Rattle.std.specs.Prelude.{◌≡◌, ◌<◌, pos};
 ghost use Rattle.protocol.specs.Bytes.{whole, put, bytes_of};
 ghost use Rattle.protocol.specs.Records.{u32_at, u64_at, i64_at};

@@ -1,4 +1,6 @@
 // The panel's records, every field at its offset from the id (000's sync/format.rs).
+#![tactic(auto)]
+
 ghost use Rattle.std.specs.Prelude.{◌≡◌, ◌+◌, ◌≤◌, length, drop};
 ghost use Rattle.protocol.specs.Bytes.{whole};
 ghost use Rattle.protocol.specs.Records.{header_size, stat_size, stat_at, dent_size, dent_at, stat2_size, stat2_body, stat2_at, dent2_size, dent2_at};
@@ -20,14 +22,14 @@ pub const STAT_V2_BODY_SIZE: usize = 68;
 pub const DENT_V2_SIZE: usize = 76;
 
 // What every message and reply begins with.
-#[derive(Drop)]
+#[derive(Clone, Copy)]
 pub struct Header {
     pub id: [u8; 4],
     pub arg: u32,
 }
 
 // A STAT reply.
-#[derive(Drop)]
+#[derive(Clone, Copy)]
 pub struct StatV1 {
     pub mode: FileMode,
     pub size: u32,
@@ -35,14 +37,14 @@ pub struct StatV1 {
 }
 
 // A DENT reply, without its name.
-#[derive(Drop)]
+#[derive(Clone, Copy)]
 pub struct DentV1 {
     pub stat: StatV1,
     pub namelen: u32,
 }
 
 // A STA2 reply.
-#[derive(Drop)]
+#[derive(Clone, Copy)]
 pub struct StatV2 {
     pub error: u32,
     pub dev: u64,
@@ -58,7 +60,7 @@ pub struct StatV2 {
 }
 
 // A DNT2 reply, without its name.
-#[derive(Drop)]
+#[derive(Clone, Copy)]
 pub struct DentV2 {
     pub stat: StatV2,
     pub namelen: u32,

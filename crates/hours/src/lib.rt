@@ -1,4 +1,6 @@
 // Cutting hours from a file, and in the settings that the host lends (document 02, [10]).
+#![tactic(auto)]
+
 ghost use Rattle.std.specs.Prelude.{List, ◌≡◌, ℕ, ◌≤◌, length, take, drop};
 ghost use Rattle.std.proofs.Math.Option.{none, some};
 ghost use Rattle.decimal.specs.Meaning.{parsed};
@@ -63,7 +65,7 @@ const HEADING_SIZE: usize = 15;
 const HEADING: [u8; 15] = *b"day,open,close\n";
 
 // What a line of the file gives: the day, its opening and its closing minute.
-#[derive(Drop)]
+#[derive(Clone, Copy)]
 enum Day {
     Span(u32, u32, u32),
     Bad,

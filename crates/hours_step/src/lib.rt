@@ -1,4 +1,6 @@
 // A session with totals and hours in a lent record of 328 bytes (document 02, [10]): a step of the session with totals inside, the hours it opened with behind it.
+#![tactic(auto)]
+
 ghost use Rattle.std.specs.Prelude.{◌&&◌, not, ◌≡◌, eqb, length, take};
 ghost use Rattle.protocol.specs.Hours.{lets};
 ghost use Rattle.boundary.specs.Crossing.{crossed};

@@ -1,4 +1,6 @@
 // Whether the session in a record would take a push start: none of the numbers 1 to 11 would be told. Nothing is altered.
+#![tactic(auto)]
+
 ghost use Rattle.std.specs.Prelude.{◌≡◌};
 ghost use Rattle.protocol.specs.Refusal.{is_none, request_refusal};
 ghost use Rattle.record.specs.Record.{loaded};

@@ -1,4 +1,6 @@
 // The fifteen ids from a file, and in the settings that the host lends (document 02, [9]).
+#![tactic(auto)]
+
 ghost use Rattle.std.specs.Prelude.{List, ◌≡◌, ℕ, ◌+◌, ◌*◌, ◌≤◌, length, take, drop, replicate};
 ghost use Rattle.protocol.specs.Bytes.{over};
 ghost use Rattle.protocol.specs.Features.{some_is};
@@ -36,7 +38,7 @@ const BAD_FORM: u8 = 22;
 const EQUAL_VALUES: u8 = 23;
 
 // Settings as they are lent: the ids that their table has, or why not.
-#[derive(Drop)]
+#[derive(Clone, Copy)]
 pub enum Lent {
     Ids(Ids),
     Refused(u8),

@@ -1,4 +1,6 @@
 // The ids that host and panel agree on: the numbers that their four bytes spell, two to a field, the first in the lower half.
+#![tactic(auto)]
+
 ghost use Rattle.std.specs.Prelude.{◌≡◌, length};
 ghost use Rattle.protocol.specs.Bytes.{le};
 ghost use Rattle.protocol.specs.Ids.{letters, named};
@@ -11,7 +13,7 @@ use format_number::u32_at;
 // How many ids there are.
 const COUNT: usize = 15;
 
-#[derive(Drop)]
+#[derive(Clone, Copy)]
 pub struct Ids {
     pub stat: u64,
     pub list: u64,

@@ -1,4 +1,6 @@
 // The lines that the program `listing` prints, laid into a buffer: each function gives the place where its line ends.
+#![tactic(auto)]
+
 ghost use Rattle.std.specs.Prelude.{[], ◌∷◌, ◌++◌, ◌≡◌, ◌+◌, ◌<◌, ◌≤◌, ◌*◌, length};
 ghost use Rattle.protocol.specs.Bytes.{ascii};
 ghost use Rattle.protocol.specs.Decimal.{decimal};

@@ -1,4 +1,6 @@
 // The panel's side as it crosses to a host: a reply by its number and its numbers, and a request that was heard, in numbers.
+#![tactic(auto)]
+
 ghost use Rattle.std.specs.Prelude.{true, ◌&&◌, List, [], ◌∷◌, ◌≡◌, ℕ, ◌+◌, ◌*◌, ◌≤◌, leb, length, take, drop};
 ghost use Rattle.boundary.specs.Heard.{at};
 ghost use Rattle.format_record.specs.Told.{told_stat, told_stat2};
@@ -240,7 +242,7 @@ fn stat_v2_in(numbers: &[u8]) -> StatV2
 }
 
 // The reply of a kind and its numbers, if there is one.
-#[derive(Drop)]
+#[derive(Clone, Copy)]
 enum Given {
     Reply(Reply),
     Nothing,

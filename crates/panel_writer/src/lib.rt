@@ -1,4 +1,6 @@
 // What the panel says: a reply into a lent buffer (document 02, [4]).
+#![tactic(auto)]
+
 ghost use Rattle.std.specs.Prelude.{true, ◌&&◌, ◌++◌, ◌≡◌, suc, ◌+◌, ◌≤◌, ◌<◌, leb, ltb, length};
 ghost use Rattle.protocol.specs.Bytes.{put};
 ghost use Rattle.protocol.specs.Messages.{word, data_most};
@@ -22,7 +24,7 @@ const MAX_DATA: usize = 65536;
 const TOO_LONG: usize = 0x1_0000_0000;
 
 // A reply; the name of an entry, the data of a chunk or the text of a FAIL is lent beside it.
-#[derive(Drop)]
+#[derive(Clone, Copy)]
 pub enum Reply {
     Stat(StatV1),
     StatV2(StatV2),

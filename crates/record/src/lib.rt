@@ -1,4 +1,6 @@
 // A session in a lent record: how many bytes it takes, its numbers of eight bytes each, and the states of its pending step.
+#![tactic(auto)]
+
 pub const SIZE: usize = 256;
 
 // ---- the numbers, by their places

@@ -1,4 +1,6 @@
 // The session that a lent record holds.
+#![tactic(auto)]
+
 ghost use Rattle.std.specs.Prelude.{◌≡◌, ◌%◌, ◌<◌, length, false, eqb};
 ghost use Rattle.protocol.specs.Bytes.{pick, signed};
 ghost use Rattle.session.specs.Core.{features_from};
@@ -20,7 +22,7 @@ use recv_buf::RecvBuf;
 use request::Request;
 use session::{Pending, Phase, Session, Version, Want};
 
-#[derive(Drop)]
+#[derive(Clone, Copy)]
 pub enum Loaded {
     Session(Session),
     // it is not 256 bytes long, or its numbers are no session's
@@ -241,7 +243,7 @@ fn session(rec: &[u8]) -> Session
 
 // Whether the parts that the pending step comes to lie inside their slices: a path is sent from its start on, and no more of a FAIL text was
 // kept than the capacity. False for a record of another length.
-pub fn step_in_lem(rec: &[u8]) -> bool
+pub fn step_in(rec: &[u8]) -> bool
     ensures { result ≡ pick (eqb (length rec.now) size) (step_in (word_of rec.now 0) (pending_of (word_of rec.now))) false }
 {
     if rec.len() == SIZE {
@@ -279,7 +281,7 @@ pub fn load(rec: &[u8]) -> Loaded
         if 2 <= word(rec, FLAG) {
             return Loaded::Unknown;
         }
-        if step_in_lem(rec) {
+        if step_in(rec) {
             return Loaded::Session(session(rec));
         }
         return Loaded::Unknown;

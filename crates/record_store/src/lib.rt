@@ -1,4 +1,6 @@
 // A session into a lent record, and numbers in eight bytes each.
+#![tactic(auto)]
+
 ghost use Rattle.std.specs.Prelude.{[], ◌∷◌, ◌≡◌, ◌<◌, eqb, length};
 ghost use Rattle.protocol.specs.Bytes.{pick, put, bytes_of};
 ghost use Rattle.features.specs.Meaning.{listed};

@@ -1,15 +1,17 @@
 // A receive buffer: the bytes read from the channel and not yet taken lie from head to tail of a lent slice (000's base/recv_buf.rs).
+#![tactic(auto)]
+
 ghost use Rattle.std.specs.Prelude.{◌≡◌, drop};
 ghost use Rattle.recv_buf.specs.RecvBuf.{empty, held_count, taken, filled, held_bytes, compacted, holding};
 
-#[derive(Drop)]
+#[derive(Clone, Copy)]
 pub struct RecvBuf {
     pub head: usize,
     pub tail: usize,
 }
 
 // What holding a number of bytes takes.
-#[derive(Drop)]
+#[derive(Clone, Copy)]
 pub enum Hold {
     // They are more than the buffer has room for.
     TooLarge,

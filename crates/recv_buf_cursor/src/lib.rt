@@ -1,4 +1,6 @@
 // The cursor of a receive buffer, lent: head and tail move forward with each take and fill (000's base/recv_buf.rs).
+#![tactic(auto)]
+
 ghost use Rattle.std.specs.Prelude.{◌≡◌};
 ghost use Rattle.recv_buf.specs.RecvBuf.{taken, filled};
 

@@ -1,7 +1,9 @@
 // A request, as the host writes it and the panel reads it. Its path or data is lent beside it.
+#![tactic(auto)]
+
 use format_flags::{FileMode, SyncFlags};
 
-#[derive(Drop)]
+#[derive(Clone, Copy)]
 pub enum Request {
     Stat,
     Sta2,

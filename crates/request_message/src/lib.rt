@@ -1,4 +1,6 @@
 // A request as the bytes that go out: whole, at the front of a lent slice or from tail on (000's sync.rs, `write_header` and `write_message`).
+#![tactic(auto)]
+
 ghost use Rattle.std.specs.Prelude.{List, [], ◌∷◌, ◌++◌, ◌≡◌, ◌+◌, ◌≤◌, length};
 ghost use Rattle.protocol.specs.Bytes.{put};
 ghost use Rattle.protocol.specs.Messages.{rcv2, send, snd2, word, comma, joined, bytes_of_request};

@@ -1,4 +1,6 @@
 // The mode of a SEND by its text: decimal, or octal behind a leading 0 (document 02, [5]).
+#![tactic(auto)]
+
 ghost use Rattle.std.specs.Prelude.{◌≡◌};
 ghost use Rattle.decimal.specs.Meaning.{parsed};
 ghost use Rattle.protocol.specs.Modes.{mode_in};

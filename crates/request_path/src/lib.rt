@@ -1,4 +1,6 @@
 // A path, for the host and for the panel's request reader: whether it is refused, and by which number (8 a NUL, 7 too long).
+#![tactic(auto)]
+
 ghost use Rattle.std.specs.Prelude.{◌≡◌};
 ghost use Rattle.protocol.specs.Bytes.{has};
 ghost use Rattle.protocol.specs.Ids.{published};

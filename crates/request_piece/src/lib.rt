@@ -1,4 +1,6 @@
 // A message that goes out in pieces: the header, then each nonempty part (000's sync.rs, `write_message`).
+#![tactic(auto)]
+
 ghost use Rattle.std.specs.Prelude.{[], ◌∷◌, ◌≡◌, length, get_or};
 ghost use Rattle.std.proofs.Math.ListN.{get_elem?};
 ghost use Rattle.protocol.specs.Messages.{word, apart};
@@ -13,7 +15,7 @@ use request::Request;
 use request_message::write_header;
 
 // What is lent goes out as it lies; the rest goes by value, an id by its number.
-#[derive(Drop)]
+#[derive(Clone, Copy)]
 pub enum Piece {
     Header(u32, u32),
     Lent,

@@ -1,4 +1,6 @@
 // The panel's request reader: the request at the front of a slice, "more", or 18 (document 01, added).
+#![tactic(auto)]
+
 ghost use Rattle.std.specs.Prelude.{not, ◌||◌, List, ◌≡◌, ◌+◌, ◌-◌, ◌≤◌, ◌<◌, length, take, drop};
 ghost use Rattle.std.proofs.Math.Option.{some};
 ghost use Rattle.decimal.specs.Meaning.{parsed};
@@ -27,7 +29,7 @@ const MAX_DATA: usize = 65_536;
 // The longest path, a comma and the longest mode (document 02, [5]).
 const MAX_SEND: usize = MAX_PATH + 1 + MAX_MODE;
 
-#[derive(Drop)]
+#[derive(Clone, Copy)]
 pub enum Read {
     // The message is not all there yet.
     More,
@@ -58,7 +60,7 @@ impl Read {
     }
 }
 
-#[derive(Drop)]
+#[derive(Clone, Copy)]
 enum Part {
     More,
     Refused,
@@ -156,7 +158,7 @@ fn read_snd2(s: &[u8], n: usize) -> Read
     answer(part, Request::Snd2(mode, flags), n, n + 20)
 }
 
-#[derive(Drop)]
+#[derive(Clone, Copy)]
 enum Comma {
     At(usize),
     Nowhere,

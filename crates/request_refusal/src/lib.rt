@@ -1,4 +1,6 @@
 // The refusals of a request, in their order: 8, 7, 9, 10 (000's `check_path` and `require_sendrecv_v2`).
+#![tactic(auto)]
+
 ghost use Rattle.std.specs.Prelude.{◌≡◌, ◌<◌};
 ghost use Rattle.features.specs.Meaning.{listed};
 ghost use Rattle.protocol.specs.Refusal.{or_else, path_refusal, flag_refusal, feature_refusal, transfer_refusal, request_refusal};
@@ -11,7 +13,7 @@ use format_flags::SyncFlags;
 use request::Request;
 use request_path::path_refusal;
 
-#[derive(Drop)]
+#[derive(Clone, Copy)]
 pub enum Check {
     Fine,
     // Answer 8, 7 or 9.

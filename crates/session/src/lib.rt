@@ -1,4 +1,6 @@
 // The types of a session: what it keeps from one report to the next, what it answers, and what it asks of the host.
+#![tactic(auto)]
+
 ghost use Rattle.std.specs.Prelude.{◌≡◌};
 ghost use Rattle.session.specs.State.{at, begun, shut, answering, refusing};
 ghost use Rattle.session.specs.Calls.{misfit};
@@ -10,14 +12,14 @@ use recv_buf::RecvBuf;
 use request::Request;
 use request_piece::Piece;
 
-#[derive(Drop)]
+#[derive(Clone, Copy)]
 pub enum Version {
     V1,
     V2,
 }
 
 // The ids that a call takes as the next header.
-#[derive(Drop)]
+#[derive(Clone, Copy)]
 pub enum Want {
     Stat(Version),
     Entry(Version),
@@ -27,7 +29,7 @@ pub enum Want {
 }
 
 // Where the session reads: each phase is one need of the plain reader.
-#[derive(Drop)]
+#[derive(Clone, Copy)]
 pub enum Phase {
     Header(Want),
     Stat(Version),
@@ -45,7 +47,7 @@ pub enum Phase {
 }
 
 // A name and a chunk are parts of the receive buffer, a FAIL text the beginning of the message buffer.
-#[derive(Drop)]
+#[derive(Clone, Copy)]
 pub enum Answer {
     Done,
     End,
@@ -65,13 +67,13 @@ pub enum Answer {
 }
 
 // What a read, a write or the close can come to instead.
-#[derive(Drop)]
+#[derive(Clone, Copy)]
 pub enum Fault {
     Closed,
     Error(u32),
 }
 
-#[derive(Drop)]
+#[derive(Clone, Copy)]
 pub enum Pending {
     Idle,
     // the need is met when tail comes to until; lost: a push write found the channel closed
@@ -93,7 +95,7 @@ pub enum Pending {
     },
 }
 
-#[derive(Drop)]
+#[derive(Clone, Copy)]
 pub enum Reply {
     Told(Answer),
     // read into this part of the receive buffer
@@ -105,7 +107,7 @@ pub enum Reply {
     Close,
 }
 
-#[derive(Drop)]
+#[derive(Clone, Copy)]
 pub struct Session {
     // the lengths of the receive and the message buffer
     pub capacity: usize,
@@ -224,20 +226,20 @@ impl Session {
     }
 }
 
-#[derive(Drop)]
+#[derive(Clone, Copy)]
 pub struct Stepped {
     pub session: Session,
     pub reply: Reply,
 }
 
 // One turn at a phase: bytes dropped, bytes of them kept as a text, and what follows.
-#[derive(Drop)]
+#[derive(Clone, Copy)]
 pub enum Then {
     Stop(Answer),
     Go(Phase),
 }
 
-#[derive(Drop)]
+#[derive(Clone, Copy)]
 pub struct Turn {
     pub drops: usize,
     pub keeps: usize,
@@ -245,7 +247,7 @@ pub struct Turn {
 }
 
 // A step that is over, or a session that goes on at a phase.
-#[derive(Drop)]
+#[derive(Clone, Copy)]
 pub enum Hop {
     Over(Stepped),
     On(Session, Phase),

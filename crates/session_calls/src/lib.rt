@@ -1,4 +1,6 @@
 // Opens a session and starts its calls: the refusals in their order, then the first step (000's sync.rs, `SyncSession`).
+#![tactic(auto)]
+
 ghost use Rattle.std.specs.Prelude.{◌≡◌, length};
 ghost use Rattle.protocol.specs.Features.{features_of};
 ghost use Rattle.session.specs.Core.{features_from};
@@ -17,7 +19,7 @@ use session_messages::carried;
 use session_pump::{read_on, tidy};
 use session_sender::send;
 
-#[derive(Drop)]
+#[derive(Clone, Copy)]
 pub enum Opened {
     Session(Session),
     Refused(u8),

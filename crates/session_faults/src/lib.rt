@@ -1,4 +1,6 @@
 // What a fault comes to that the host reports of a read, a write or the close: the other half of each wait of 000's sync.rs.
+#![tactic(auto)]
+
 ghost use Rattle.std.specs.Prelude.{List, ◌≡◌, ℕ, length};
 ghost use Rattle.protocol.specs.Bytes.{pick};
 ghost use Rattle.session.specs.Reports.{fault_answer, push_fault, quit_fault, write_fault, report_fault};

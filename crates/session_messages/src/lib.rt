@@ -1,4 +1,6 @@
 // The part of what is lent that one message carries: data goes in messages of at most 65,536 bytes (000's sync.rs).
+#![tactic(auto)]
+
 ghost use Rattle.std.specs.Prelude.{◌≡◌};
 ghost use Rattle.session.specs.Sends.{is_data, carried};
 

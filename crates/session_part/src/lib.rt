@@ -1,4 +1,6 @@
 // The bytes that an answer hands back, as a part of the buffer they lie in.
+#![tactic(auto)]
+
 ghost use Rattle.std.specs.Prelude.{[], ◌≡◌};
 ghost use Rattle.session.specs.Shown.{paper};
 ghost use Rattle.session_part.specs.Part.{inside, handed};

@@ -1,4 +1,6 @@
 // The phases of a session: how many bytes each wants, and the turn it takes once they are held (000's sync.rs).
+#![tactic(auto)]
+
 ghost use Rattle.std.specs.Prelude.{◌≡◌, ◌+◌, ◌-◌, ◌<◌, ◌≤◌, min, max, length, drop};
 ghost use Rattle.protocol.specs.Bytes.{same};
 ghost use Rattle.protocol.specs.Records.{id_at, arg_at};

@@ -1,4 +1,6 @@
 // Reading on: turns through the phases, until there is an answer or a read is asked for (000's sync.rs).
+#![tactic(auto)]
+
 ghost use Rattle.std.specs.Prelude.{List, ◌≡◌, ℕ, ◌+◌, ◌≤◌, ◌<◌, length};
 ghost use Rattle.session.specs.Calls.{guarded};
 ghost use Rattle.session.specs.State.{st, out, half, Fits};

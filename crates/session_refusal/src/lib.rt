@@ -1,4 +1,6 @@
 // Whether a report is refused, and what a reported close comes to.
+#![tactic(auto)]
+
 ghost use Rattle.std.specs.Prelude.{List, ◌≡◌, ℕ, eqb};
 ghost use Rattle.protocol.specs.Bytes.{pick};
 ghost use Rattle.session.specs.Reports.{report_refusal, closed_out};

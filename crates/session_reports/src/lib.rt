@@ -1,4 +1,6 @@
 // What the host reports of a read, of a write or of the close that was accepted: the other half of each wait of 000's sync.rs.
+#![tactic(auto)]
+
 ghost use Rattle.std.specs.Prelude.{◌≡◌, ◌≤◌, length};
 ghost use Rattle.session.specs.Reports.{read_in, report_read, report_wrote};
 ghost use Rattle.session.specs.State.{st, out, at, Fits};

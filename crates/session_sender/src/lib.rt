@@ -1,4 +1,6 @@
 // Sends the messages of a call: whole in the free end of the receive buffer, or in pieces (000's sync.rs, `write_message`).
+#![tactic(auto)]
+
 ghost use Rattle.std.specs.Prelude.{false, ◌≡◌, ◌<◌, length};
 ghost use Rattle.session.specs.Calls.{guarded};
 ghost use Rattle.session.specs.State.{st, out, half, Fits};

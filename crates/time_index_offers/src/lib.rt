@@ -1,4 +1,6 @@
 // What a reply that the host was told offers to an index (document 02, [1]): the entry of a listing, its time and its name.
+#![tactic(auto)]
+
 ghost use Rattle.std.specs.Prelude.{◌≡◌};
 ghost use Rattle.time_index_offers.specs.Offers.{offer, Inside, offered_in};
 
@@ -25,7 +27,7 @@ const TIME_V2_AT: usize = 96;
 const V1_TIMES: u64 = 0x1_0000_0000;
 
 // What a told reply offers: an entry, its time in two's complement and its name a part of the receive buffer; nothing; no reply at all.
-#[derive(Drop)]
+#[derive(Clone, Copy)]
 pub enum Offered {
     Entry { time: u64, at: usize, len: usize },
     Nothing,

@@ -1,4 +1,6 @@
 // The index of a listing's entries by their times, in lent bytes (document 02, [1]).
+#![tactic(auto)]
+
 ghost use Rattle.std.specs.Prelude.{true, ◌&&◌, [], ◌∷◌, ◌≡◌, ◌+◌, ◌-◌, ◌≤◌, ◌<◌, leb, length, take, drop};
 ghost use Rattle.protocol.specs.Bytes.{signed, over, put};
 ghost use Rattle.boundary.specs.Told.{out_size};

@@ -1,4 +1,6 @@
 // A session with totals in a lent record of 296 bytes (document 02, [7] and [8]): a step of the session inside, the totals behind it, and the reads of a call.
+#![tactic(auto)]
+
 ghost use Rattle.std.specs.Prelude.{◌≡◌, ◌+◌, ◌%◌, ◌≤◌, ◌&&◌, ◌||◌, length, take, nat_le};
 ghost use Rattle.record.specs.Record.{loaded, size};
 ghost use Rattle.boundary.specs.Crossing.{crossed};

@@ -1,4 +1,6 @@
 // Whether the session in a record would take a report: none of the numbers 1 to 11 would be told. Nothing is altered.
+#![tactic(auto)]
+
 ghost use Rattle.std.specs.Prelude.{◌≡◌, ◌-◌, ◌≤◌, eqb};
 ghost use Rattle.record.specs.Record.{loaded};
 ghost use Rattle.session.specs.Reports.{report_refusal};

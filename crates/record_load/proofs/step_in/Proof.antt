@@ -5,8 +5,8 @@ use borrow.Author.Tests.{lt-ltb, le-ltb, eq-eqb, ne_eqb}
 use lib.ListN.{length}
 use Rattle.record.proofs.States.{step-state}
 use Rattle.record.specs.Record.{size, word_of}
-use Rattle.record_load.proofs.step_in_lem.Statement.{statement}
-use Rattle.record_load.proofs.step_in_lem.Tie as tie
+use Rattle.record_load.proofs.step_in.Statement.{statement}
+use Rattle.record_load.proofs.step_in.Tie as tie
 
 text : tie.Need-returns
 text c =
