@@ -34,6 +34,26 @@ class Function:
             if arm:
                 self.arm[norm(old)] = arm
 
+        self.clauses = {}  # a call's step as it was: its callee's parameters, and its clauses' names
+        for (_, _, step, callee, _), clause in zip(names["places"], names["clauses"]):
+            if callee:
+                self.clauses[norm(step[0])] = (names["params"].get(callee, []), clause["fields"] if clause else None)
+
+    def of_call(self, old, rest):
+        """What follows a call's step, with the names of today."""
+        rest = rest.replace(".type-inv", ".type_inv")
+        params, fields = self.clauses.get(norm(old), ([], None))
+        m = re.match(r"\.new\.(\d+)(?:\.0(?!\d))?(.*)", rest)
+        if m and int(m[1]) < len(params):
+            return f".new.{params[int(m[1])]}{m[2]}"
+        m = re.match(r"\.auto\.(\d+)(?:\.0(?!\d))?(.*)", rest)
+        if m and int(m[1]) < len(params):
+            return f".auto.{params[int(m[1])]}{m[2]}"
+        m = re.match(r"\.ensures\.(\d+)(.*)", rest)
+        if m and fields and int(m[1]) < len(fields):
+            return f".ensures.{fields[int(m[1])]}{m[2]}"
+        return rest
+
     def arm_of(self, place, old):
         """Where a place lies in the arm of a match, the arm's name and its fields."""
         while place:
@@ -106,12 +126,16 @@ FIELD = re.compile(r"(?<![\w.'◌₀-])(" + TOKEN + r")\.(" + TOKEN + r")((?:\."
 def body_of(f, text, variable, place, need, helpers):
     """The body with the steps' names of today. variable stands at place; a `let` that binds a place is a name for the same record."""
     places = {variable: place}
+    steps = {}  # what a `let` calls a step: the step as it was
     out = []
     for line in text.split("\n"):
         m = re.match(r"(.*?\blet )(" + TOKEN + r") = (" + TOKEN + r")((?:\.before)*) in(.*)$", line)
         if m and m[3] in places:
             places[m[2]] = climbed(f, places[m[3]], m[4])
             line = f"{m[1]}{m[2]} = {variable} in{m[5]}"
+        m = re.match(r".*?\blet (" + TOKEN + r") = (" + TOKEN + r")(?:\.before)*\.(" + TOKEN + r") in", line)
+        if m and m[2] in places and norm(m[3]) in f.clauses:
+            steps[m[1]] = m[3]
         out.append(line)
     text = "\n".join(out)
     code = "|".join(re.escape(h) for h in sorted(f.helper, key=len, reverse=True))
@@ -150,6 +174,8 @@ def body_of(f, text, variable, place, need, helpers):
     text = PATH.sub(up, text)
 
     def down(m):
+        if m[1] in steps:
+            return m[1] + f.of_call(steps[m[1]], "." + m[2] + m[3])
         if m[1] not in places:
             return m[0]
         first, rest = m[2], m[3]
@@ -165,10 +191,44 @@ def body_of(f, text, variable, place, need, helpers):
                     return f"{m[1]}.{arm[0]}.{field}{rest[len(dotted):]}"
         now = f.step(places[m[1]], first) if places[m[1]] in f.place else f.step(place, first)
         if now:
-            return f"{m[1]}.{now}{rest}"
+            return f"{m[1]}.{now}{f.of_call(first, rest)}"
         return m[0]
 
     return FIELD.sub(down, text)
+
+
+def labelled(clause, labels, notes):
+    """A tuple at the end of an answer as a record of clauses by name."""
+    head, eq, rest = clause.partition(" =")
+    depth, at = 0, 0
+    cut = 0
+    for m in re.finditer(r"[(\[{]|[)\]}]|(?<=\s)in(?=\s)", rest):
+        if m[0] in "([{":
+            depth += 1
+        elif m[0] in ")]}":
+            depth -= 1
+        elif depth == 0:
+            cut = m.end()
+    last = rest[cut:].strip()
+    parts, depth, now = [], 0, ""
+    if last.startswith("(") and last.endswith(")"):
+        for ch in last[1:-1]:
+            depth += ch in "([{"
+            depth -= ch in ")]}"
+            if depth < 0:
+                break
+            if ch == "," and depth == 0:
+                parts.append(now.strip())
+                now = ""
+            else:
+                now += ch
+        if now.strip():
+            parts.append(now.strip())
+    if depth or len(parts) != len(labels):
+        notes.append(f"asks {labels}: {last[:60]}")
+        return clause
+    made = "record { " + "; ".join(f"{l} = {re.sub(chr(10) + ' *', ' ', p)}" for l, p in zip(labels, parts)) + " }"
+    return head + eq + rest[:cut] + " " + made
 
 
 def climbed(f, at, befores):
@@ -321,6 +381,9 @@ def convert(root, crate, key, names):
                 variable = bs[-1] if bs else "c"
                 clause = need + "".join(" " + b for b in bs) + clause[binders.end(1):]
             clause = body_of(f, clause, variable, place, need, None)
+            labels = next((names["asked"].get(o) for o, n in names["needs"] if n == need), None)
+            if labels:
+                clause = labelled(clause, labels, notes)
             answers.append("\n".join(lead + [f"pub {need} : goal.{need}"] + unfolding + [clause]))
             continue
         # a helper: of places, or plain
@@ -335,7 +398,7 @@ def convert(root, crate, key, names):
         at = None
         if section:
             at = (section[1], norm(section[2].split()[0]))
-        m = re.match(r"(?:abbrev )?(\S+) : (?:\((\S+) : )?tie\.(\S+?)\)?(?: |$)", whole)
+        m = re.match(r"(?:abbrev )?(\S+) : (?:\((\S+) : )?tie\.(\S+?)\)?(?:\s|$)", whole)
         if m:
             at = (m[2] or None, norm(m[3]))
         if at:
@@ -344,7 +407,9 @@ def convert(root, crate, key, names):
                 found = re.search(r"(?m)^" + re.escape(m[1]) + r" (\S+)", "\n".join(lines[1:]))
                 variable = found[1] if found else "c"
             whole = body_of(f, whole, variable, at[1], None, None)
-        whole = re.sub(r"\(?tie\.([A-Z][^\s)]*)((?: invariant-\S+| decreases-[^\s)]+)*)\)?(?=[\s)])", lambda t: place_name(t) if t[1].startswith(("At", "After", "Then", "Else", "In", "Start", "Joined")) else t[0], whole) if not section else re.sub(r"tie\.([A-Z][^\s)]*)((?: invariant-\S+| decreases-[^\s)]+)*)", place_name, whole)
+        proofs = r"((?: invariant-[^\s)]+| decreases-[^\s)]+)*)"
+        whole = re.sub(r"\(tie\.((?:At|After|Then|Else|In|Start|Joined)[^\s)]*)" + proofs + r"\)", place_name, whole)
+        whole = re.sub(r"tie\.((?:At|After|Then|Else|In|Start|Joined)[^\s)]*)" + proofs, place_name, whole)
         helpers.append("\n".join(lead + [whole]))
     # the arguments of tie.spec, in the order of the needs: what was written there becomes an answer
     args = [a for a in spec_args if not re.match(r"(invariant|decreases)-", a)]
@@ -391,8 +456,10 @@ def convert(root, crate, key, names):
         need = needs[j][1]
         m = re.match(r"\(λ (\S+?)(?: (?:κs|_))?\. (.*)\)$", a)
         if m:
-            clause = body_of(f, m[2], m[1], f.at[need], need, None)
-            answers.append("\n".join([f"pub {need} : goal.{need}"] + ([spec_unfolding] if spec_unfolding else []) + [f"{need} {m[1]} = {clause}"]))
+            clause = f"{need} {m[1]} = " + body_of(f, answers_named(" =" + m[2])[2:], m[1], f.at[need], need, None)
+            if names["asked"].get(needs[j][0]):
+                clause = labelled(clause, names["asked"][needs[j][0]], notes)
+            answers.append("\n".join([f"pub {need} : goal.{need}"] + ([spec_unfolding] if spec_unfolding else []) + [clause]))
         else:
             answers.append("\n".join([f"pub {need} : goal.{need}"] + ([spec_unfolding] if spec_unfolding else []) + [f"{need} = {a}"]))
     for i, a in enumerate(args):

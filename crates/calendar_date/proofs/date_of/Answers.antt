@@ -1,0 +1,18 @@
+-- `calendar_date::date_of` meets its contract.
+use mathlib.Core.Path.{◌∙◌}
+use native.Mathlib.Omega.{arith}
+use Rattle.calendar.specs.Calendar.{date}
+use Rattle.calendar_date.proofs.Laws.{cross_short, cross_long}
+use Rattle.calendar_date.proofs.date_of.Goals as goal
+
+pub returns-then-out-lt-REPLY : goal.returns-then-out-lt-REPLY
+returns-then-out-lt-REPLY c = let a = c.args in cross_short a.moment a.out.now (omega arith)
+
+pub returns : goal.returns
+returns c =
+    let p = c in
+    let m = c in
+    let y = c in
+    let a = y.args in
+    let d = m.month_of-d.result in
+    cross_long a.moment a.out.now (date d.year d.month d.day) (omega arith) (m.month_of-d.ensures ∙ y.year_of-y.ensures.0) p.put_five.ensures

@@ -1,0 +1,25 @@
+-- Answers to goals of `calendar_date::month_of`.
+use mathlib.Core.Path.{refl, sym, ◌∙◌}
+use native.Mathlib.Omega.{arith}
+use Rattle.calendar_date.proofs.Laws.{month-in, month-on, month-last}
+use Rattle.calendar_date.proofs.month_of.Goals as goal
+
+pub loop-month-init : goal.loop-month-init
+loop-month-init c = (omega arith, (omega arith, refl))
+
+pub returns-then-day-length : goal.returns-then-day-length
+returns-then-day-length c =
+    let l = c in
+    let e = c.month_length-length.ensures in
+    sym (month-in l.args.year l.loop-month.month l.loop-month.day (omega arith) (omega arith)) ∙ l.loop-month.invariant.1.1
+
+pub loop-month-preserved : goal.loop-month-preserved
+loop-month-preserved c =
+    let l = c in
+    let e = c.month_length-length.ensures in
+    (omega arith, (omega arith, rw e (sym (month-on l.args.year l.loop-month.month l.loop-month.day (omega arith) (omega arith)) ∙ l.loop-month.invariant.1.1)))
+
+pub returns : goal.returns
+returns c =
+    let l = c in
+    sym (month-last l.args.year l.loop-month.month l.loop-month.day (omega arith)) ∙ l.loop-month.invariant.1.1

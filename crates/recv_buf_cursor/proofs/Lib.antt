@@ -1,2 +1,0 @@
--- `Lent` has the part that the walks by hand share.
-pub mod Lent

@@ -1,0 +1,20 @@
+-- `request_message::begin` meets its contract.
+use mathlib.Core.List.{◌++◌}
+use native.Mathlib.Omega.{arith}
+use borrow.Author.Rules.{rules}
+use Rattle.protocol.specs.Messages.{word}
+use Rattle.request_message.proofs.Laws.{front_bytes, begun-out, begin-puts}
+use Rattle.request_message.proofs.begin.Goals as goal
+
+pub returns-then-out-fixed : goal.returns-then-out-fixed
+returns-then-out-fixed c =
+    let a = c.args in record { result_after = begun-out a.out.now (word a.id ++ word a.count ++ a.lent.now) a.rest (omega (arith, front_bytes a.id a.count a.lent.now)); upper_bound = search rules }
+
+pub returns-then-room-lent : goal.returns-then-room-lent
+returns-then-room-lent c =
+    let a = c.args in record { result_after = begun-out a.out.now (word a.id ++ word a.count ++ a.lent.now) a.rest (omega (arith, front_bytes a.id a.count a.lent.now)); upper_bound = search rules }
+
+pub returns : goal.returns
+returns c =
+    let a = c.args in
+    let h = c.write_header in record { result_after = cc (begin-puts a.out.now a.id a.count a.lent.now a.rest h.new.out h.result h.ensures (omega arith)); upper_bound = search rules }

@@ -1,0 +1,37 @@
+-- `request_message::compose_digits` meets its contract.
+use mathlib.Core.List.{List, [], ◌∷◌, ◌++◌, append-nil}
+use mathlib.Core.Path.{◌≡◌, ap, ◌∙◌}
+use Prim.Native.Nat.{ℕ, ◌+◌}
+use native.Mathlib.Omega.{arith}
+use lib.ListN.{length}
+use Rattle.protocol.specs.Messages.{word, comma, joined}
+use Rattle.request_message.proofs.Laws.{go_on, stop, begun-whole, front_bytes}
+use Rattle.request_message.proofs.compose_digits.Goals as goal
+
+-- the room that is asked for is that of the comma and the digits
+room : (d : List ℕ) → 1 + length d ≡ length (joined (comma ∷ d ∷ [])) + 0
+room d = let l = ap length (append-nil d) in omega arith
+
+pub returns-then-at-eq0 : goal.returns-then-at-eq0
+returns-then-at-eq0 c =
+    let a = c.args in
+    let g = c.begin-at in
+    let d = a.digits.now in
+    let n : ℕ = length a.path.now + (1 + length d) in
+    let m : List ℕ = word a.id ++ word n ++ a.path.now in
+    stop a.out.now m (1 + length d) g.new.out g.result g.ensures.result_after (comma ∷ d ∷ []) 0 (room d) (omega (arith, front_bytes a.id n a.path.now)) c.if-at-eq0.true
+    ∙ begun-whole a.out.now _ _ (ap (λ l. m ++ (comma ++ l)) (append-nil d))
+
+pub returns : goal.returns
+returns c =
+    let s = c in
+    let a = s.args in
+    let g = s.begin-at in
+    let d = a.digits.now in
+    let n : ℕ = length a.path.now + (1 + length d) in
+    let m : List ℕ = word a.id ++ word n ++ a.path.now in
+    let k : g.result + length (joined (comma ∷ d ∷ [])) ≡ g.result + (1 + length d) = omega (arith, room d) in
+    cc (
+    go_on a.out.now m (1 + length d) g.new.out g.result g.ensures.result_after (comma ∷ d ∷ []) 0 (room d) s.if-at-eq0.false
+    ∙ begun-whole a.out.now _ _ (ap (λ l. m ++ (comma ++ l)) (append-nil d))
+    )

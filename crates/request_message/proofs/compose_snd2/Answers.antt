@@ -1,0 +1,28 @@
+-- `request_message::compose_snd2` meets its contract.
+use mathlib.Core.List.{List, [], ◌∷◌, ◌++◌}
+use mathlib.Core.Path.{refl, ◌∙◌}
+use Prim.Native.Nat.{ℕ}
+use native.Mathlib.Omega.{arith}
+use lib.ListN.{length}
+use Rattle.protocol.specs.Messages.{word}
+use Rattle.request_message.proofs.Laws.{go_on, stop, begun-whole, snd2-bytes}
+use Rattle.request_message.proofs.compose_snd2.Goals as goal
+
+pub returns-then-at-eq0 : goal.returns-then-at-eq0
+returns-then-at-eq0 c =
+    let a = c.args in
+    let g = c.begin_v2-at in
+    let m : List ℕ = word a.id ++ word (length a.path.now) ++ a.path.now ++ (word a.id ++ word a.mode.0) in
+    stop a.out.now m 4 g.new.out g.result g.ensures.result_after (word a.flags.0 ∷ []) 0 refl (omega arith) c.if-at-eq0.true
+    ∙ begun-whole a.out.now _ _ (snd2-bytes a.id a.path.now a.mode.0 a.flags.0)
+
+pub returns : goal.returns
+returns c =
+    let s = c in
+    let a = s.args in
+    let g = s.begin_v2-at in
+    let m : List ℕ = word a.id ++ word (length a.path.now) ++ a.path.now ++ (word a.id ++ word a.mode.0) in
+    cc (
+    go_on a.out.now m 4 g.new.out g.result g.ensures.result_after (word a.flags.0 ∷ []) 0 refl s.if-at-eq0.false
+    ∙ begun-whole a.out.now _ _ (snd2-bytes a.id a.path.now a.mode.0 a.flags.0)
+    )
