@@ -1,0 +1,26 @@
+-- Answers to goals of `request_reader::last_comma`.
+use mathlib.Core.Path.{◌≡◌, sym, ap}
+use native.Mathlib.Omega.{arith}
+use borrow.Author.Rules.{rules}
+use lib.Seq.{drop-length}
+use Rattle.protocol.specs.Requests.{last_comma}
+use Rattle.request_reader.proofs.Search.{comma-here, comma-before}
+use Rattle.request_reader.proofs.last_comma.Goals as goal
+
+pub loop-i-init : goal.loop-i-init
+loop-i-init c = (search rules, ap last_comma (drop-length c.args.text.now))
+
+pub returns-then-text-at-eq44 : goal.returns-then-text-at-eq44
+returns-then-text-at-eq44 c =
+    let l = c in
+    sym (comma-here _ l.loop-i.i c.loop-i-test.true l.loop-i.invariant.0 l.loop-i.invariant.1 c.if-text-at-eq44.true)
+
+pub loop-i-preserved : goal.loop-i-preserved
+loop-i-preserved c =
+    let l = c in
+    (search rules, comma-before _ l.loop-i.i c.loop-i-test.true l.loop-i.invariant.0 l.loop-i.invariant.1 c.if-text-at-eq44.false)
+
+pub returns : goal.returns
+returns c =
+    let z : c.loop-i.i ≡ 0 = omega arith in
+    sym (rw z at c.loop-i.invariant.1)

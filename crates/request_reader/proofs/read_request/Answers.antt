@@ -1,0 +1,34 @@
+-- `request_reader::read_request` meets its contract: with a header there, the id that was found is its id.
+use mathlib.Core.Path.{◌≡◌, sym, ap, ◌∙◌}
+use Prim.Native.Nat.{◌≤◌}
+use native.Mathlib.Omega.{arith}
+use lib.ListN.{length}
+use Rattle.format_id.specs.Ids.{id_of, found_id}
+use Rattle.protocol.specs.Ids.{named}
+use Rattle.protocol.specs.Records.{id_at}
+use Rattle.protocol.proofs.Requests.{more-short}
+use Rattle.ids.specs.Ids.{table_of, dialect_of}
+use Rattle.request_reader.proofs.Steps.{id-bytes, on_none, on_some}
+use Rattle.request_reader.proofs.read_request.Goals as goal
+
+pub returns-then-s-lt8 : goal.returns-then-s-lt8
+returns-then-s-lt8 c = sym (more-short (dialect_of c.args.ids) _ c.if-s-lt8.true)
+
+pub read_known-requires : goal.read_known-requires
+read_known-requires c = c.if-s-lt8.false
+
+pub returns-in-Nothing : goal.returns-in-Nothing
+returns-in-Nothing c =
+    let a = c.args in
+    let long : 8 ≤ length a.s.now = c.if-s-lt8.false in
+    let id : named (dialect_of a.ids) (id_at a.s.now) ≡ found_id c.from_bytes.result =
+    sym (c.from_bytes.ensures ∙ ap (named (dialect_of a.ids)) (id-bytes a.s.now (omega arith))) in
+    sym (on_none (table_of a.ids) a.s.now long (id ∙ ap found_id c.in-Nothing.is))
+
+pub returns-in-Id : goal.returns-in-Id
+returns-in-Id c =
+    let a = c.args in
+    let long : 8 ≤ length a.s.now = c.if-s-lt8.false in
+    let id : named (dialect_of a.ids) (id_at a.s.now) ≡ found_id c.from_bytes.result =
+    sym (c.from_bytes.ensures ∙ ap (named (dialect_of a.ids)) (id-bytes a.s.now (omega arith))) in
+    c.read_known.ensures ∙ sym (on_some (table_of a.ids) a.s.now long (id_of c.in-Id.id) (id ∙ ap found_id c.in-Id.is))
