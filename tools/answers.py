@@ -225,6 +225,9 @@ def labelled(clause, labels, notes):
         if now.strip():
             parts.append(now.strip())
     if depth or len(parts) != len(labels):
+        if len(labels) > 1 and last.count("(") == last.count(")"):
+            fields = "; ".join(f"{l} = both.{n}" for n, l in enumerate(labels))
+            return head + eq + rest[:cut] + f"\n    let both = {last} in\n    record {{ {fields} }}"
         notes.append(f"asks {labels}: {last[:60]}")
         return clause
     made = "record { " + "; ".join(f"{l} = {re.sub(chr(10) + ' *', ' ', p)}" for l, p in zip(labels, parts)) + " }"
@@ -264,6 +267,23 @@ def uses(imports, text):
     return [f"use {w}.{{{', '.join(n)}}}" for w, n in lists.items()] + wholes
 
 
+def opened(text):
+    """The file without its abbreviations over a place, which stand at their uses: a later record has the steps of an earlier one."""
+    while True:
+        m = re.search(r"(?m)^abbrev (\S+) : tie\.(?:At|After|Then|Else|In|Start|Joined)[^\n→]* → [^\n]*\n\1 (\S+) = ([^\n]+)\n(?=\n|\Z)", text)
+        if not m:
+            return text
+        name, variable, body = m[1], m[2], m[3]
+        text = text[: m.start()].rstrip("\n") + "\n\n" + text[m.end():].lstrip("\n")
+
+        def put(u):
+            made = re.sub(r"(?<![\w.'◌-])" + re.escape(variable) + r"(?![\w'-])", u[1] + u[2], body)
+            return made if re.fullmatch(r"\S+", made) else f"({made})"
+
+        text = re.sub(r"(?<![\w.'◌-])" + re.escape(name) + r" (" + TOKEN + r")((?:\.before)*)(?![\w'-])", put, text)
+        text = re.sub(r"\((" + TOKEN + r"(?:\.before)+)\)(?=\.)", r"\1", text)
+
+
 def convert(root, crate, key, names):
     path = key.replace(f"Rattle-{crate}-proofs.", "").rsplit(".Lts", 1)[0]
     folder = os.path.join(root, "crates", crate, "proofs", *path.split("."))
@@ -272,6 +292,7 @@ def convert(root, crate, key, names):
         return
     f = Function(crate, path, names)
     text = open(old, encoding="utf-8").read()
+    text = opened(text)
     parts = blocks(text)
     imports = heads(text)
     comment = "\n".join(l for l in parts[0].split("\n") if l.startswith("--"))
