@@ -56,7 +56,7 @@ class Function:
 
     def arm_of(self, place, old):
         """Where a place lies in the arm of a match, the arm's name and its fields."""
-        while place:
+        while place in self.place:
             parent, was, _, _ = self.place[place]
             if was and norm(was) == norm(old) and place in self.arm:
                 return self.arm[place]
@@ -66,7 +66,7 @@ class Function:
     def step(self, place, old):
         """The name of a step today, looked for from a place upwards."""
         first = None
-        while place:
+        while place in self.place:
             parent, was, now, _ = self.place[place]
             if was and norm(was) == norm(old):
                 return now
@@ -415,7 +415,7 @@ def convert(root, crate, key, names):
                 return f.place[key][3]
             notes.append(f"no place {t[1]}")
             return t[0]
-        section = re.match(r"module _ .*\((\S+) : tie\.(\S+)[^)]*\)", whole)
+        section = re.match(r"module _ .*?\((\S+) : tie\.([^\s)]+)", whole)
         at = None
         if section:
             at = (section[1], norm(section[2].split()[0]))

@@ -30,7 +30,7 @@ aside c = let a = c.before.before.before.before.before.before.before.before.befo
 last : tie.Need-returns-8
 last c =
     let a = c.before.before.before.before.before.before.before.before.before.before.before.before.before.before.before.before.before.before.before.before.args in
-    c.step_in_lem.ensures
+    c.step_in.ensures
     ∙ stands-last a.rec.now a.rx a.msg
     (omega arith)
     (omega arith)

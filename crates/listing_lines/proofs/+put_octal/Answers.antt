@@ -1,4 +1,4 @@
--- `listing_lines::put_octal` meets its contract: all digits but the last, then the last.
+-- Answers to goals of `listing_lines::put_octal`: all digits but the last, then the last.
 use mathlib.Core.List.{List}
 use mathlib.Core.Path.{sym, subst}
 use Prim.Native.Nat.{ℕ}
@@ -17,8 +17,7 @@ returns-then-n-lt8 t c =
     (sym (digits-small 8 (omega arith) c.args.n (omega arith))) c.put_byte.ensures
 
 pub put_octal-last-requires : goal.put_octal-last-requires
-put_octal-last-requires t c =
-    (omega (arith, c.decreases), omega (arith, c.requires, length-step 8 (omega arith) c.args.n (omega arith)))
+put_octal-last-requires t c = (omega (arith, c.decreases), omega (arith, c.requires, length-step 8 (omega arith) c.args.n (omega arith)))
 
 pub put_byte-requires-2 : goal.put_byte-requires-2
 put_byte-requires-2 t c =

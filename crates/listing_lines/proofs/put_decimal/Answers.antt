@@ -6,12 +6,10 @@ use Rattle.listing_lines.proofs.put_decimal.Goals as goal
 
 pub overflow_add-result : goal.overflow_add-result
 overflow_add-result c =
-    let s = c in
     let f = c.format_u32-count in
-    omega (arith, end-laid s.args.out.now s.args.at (decimal s.args.n) f.new.out f.result s.requires f.ensures)
+    omega (arith, end-laid c.args.out.now c.args.at (decimal c.args.n) f.new.out f.result c.requires f.ensures)
 
 pub returns : goal.returns
 returns c =
-    let s = c in
     let f = c.format_u32-count in
-    end-laid s.args.out.now s.args.at (decimal s.args.n) f.new.out f.result s.requires f.ensures
+    end-laid c.args.out.now c.args.at (decimal c.args.n) f.new.out f.result c.requires f.ensures

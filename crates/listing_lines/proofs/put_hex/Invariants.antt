@@ -1,4 +1,5 @@
 -- `listing_lines::put_hex` meets its contract. The loop's invariant: the digits of the first i bytes are laid. The measure is what is left of the bytes.
+--
 use mathlib.Core.Path.{◌≡◌}
 use Prim.Native.Nat.{◌+◌, ◌-◌, ◌*◌, ◌≤◌}
 use lib.ListN.{length, take}
