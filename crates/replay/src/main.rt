@@ -384,7 +384,14 @@ fn on_list(
     list(rt, s, first, &mut rx[..n], &mut msg[..n], lent, spare)
 }
 
-fn replay(rt: &impl Print, s: &[u8], rx: &mut [u8], msg: &mut [u8], lent: &mut [u8], spare: &mut [u8]) {
+fn replay(
+    rt: &impl Print,
+    s: &[u8],
+    rx: &mut [u8],
+    msg: &mut [u8],
+    lent: &mut [u8],
+    spare: &mut [u8],
+) {
     let mut at = 0;
     while at < s.len() {
         let first = next(s, at, lent, spare);
@@ -416,5 +423,12 @@ fn main(rt: HostRuntime) {
     let mut spare = [0u8; 65544];
     let n = read_full(&mut rt.stdin(), &mut text);
     let count = decode(&text[..n], &mut records);
-    replay(&rt, &records[..count], &mut rx, &mut msg, &mut lent, &mut spare);
+    replay(
+        &rt,
+        &records[..count],
+        &mut rx,
+        &mut msg,
+        &mut lent,
+        &mut spare,
+    );
 }
