@@ -179,6 +179,8 @@ def body_of(f, text, variable, place, need, helpers):
         if m[1] not in places:
             return m[0]
         first, rest = m[2], m[3]
+        if first == "pre":
+            return f"{m[1]}.requires{rest}"
         if first in ("args", "requires", "ranges", "lifetimes", "well_formed", "type_inv"):
             return m[0]
         if rest.startswith(".given") and f.typed(first):
@@ -191,6 +193,7 @@ def body_of(f, text, variable, place, need, helpers):
                     return f"{m[1]}.{arm[0]}.{field}{rest[len(dotted):]}"
         now = f.step(places[m[1]], first) if places[m[1]] in f.place else f.step(place, first)
         if now:
+            rest = {".left": ".false", ".taken": ".true"}.get(rest, rest) if now.startswith("if-") else rest
             return f"{m[1]}.{now}{f.of_call(first, rest)}"
         return m[0]
 
