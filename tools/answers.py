@@ -71,9 +71,12 @@ class Function:
             if was and norm(was) == norm(old):
                 return now
             place = parent
-        for parent, was, now, _ in self.place.values():
-            if was and norm(was) == norm(old):
-                first = now
+        for name in (old, re.sub(r"\d+$", "", old)):
+            for parent, was, now, _ in self.place.values():
+                if was and norm(was) == norm(name):
+                    first = now
+            if first:
+                return first
         return first
 
     def typed(self, old):
@@ -402,7 +405,7 @@ def convert(root, crate, key, names):
                 bs = binders[1].split()
                 if bs and bs[-1] in ("κs", "_") and len(bs) > 1:
                     bs = bs[:-1]
-                variable = bs[-1] if bs else "c"
+                variable = "c" if "c" in bs or not bs else bs[-1]
                 clause = need + "".join(" " + b for b in bs) + clause[binders.end(1):]
             clause = body_of(f, clause, variable, place, need, None)
             labels = next((names["asked"].get(o) for o, n in names["needs"] if n == need), None)

@@ -1,10 +1,9 @@
--- `fast_replies::heads` meets its contract: the numbers are compared, and the bytes are the same where they are. Assumes nothing.
+-- `fast_replies::heads` meets its contract: the numbers are compared, and the bytes are the same where they are.
 use mathlib.Core.Bool.{true, false}
 use mathlib.Core.List.{List}
 use mathlib.Core.Path.{◌≡◌, refl, sym, ap, ◌∙◌}
 use Prim.Native.Nat.{ℕ, ◌≤◌, ◌<◌}
 use native.Mathlib.Omega.{arith}
-use borrow.Author.Rules.{rules}
 use borrow.Author.Tests.{eq-eqb, ne_eqb, le-leb, lt-leb}
 use lib.Dec.{eqb}
 use lib.ListN.{length}
@@ -14,8 +13,7 @@ use Rattle.protocol.specs.Records.{id_at, u32_at}
 use Rattle.protocol.proofs.Bytes.{whole_in}
 use Rattle.session_phases.proofs.Ids.{same_id}
 use Rattle.fast_replies.specs.Direct.{dialect_held, heads}
-use Rattle.fast_replies.proofs.heads.Statement.{statement}
-use Rattle.fast_replies.proofs.heads.Tie as tie
+use Rattle.fast_replies.proofs.heads.Goals as goal
 
 module _ (d : Dialect) (b x : List ℕ) where
   short : length x < 8 → false ≡ heads d b x
@@ -37,27 +35,24 @@ spells : (x : List ℕ) (k n : ℕ) {m : ℕ} → 8 ≤ length x → Bytes x →
 spells x k n h b s e f =
     ap (λ (j : ℕ). eqb j n) (e ∙ whole_in 4 0 (u32_at 0) x 0 (omega arith)) ∙ same_id x 0 (omega arith) b n s ∙ ap (λ (j : ℕ). same (id_at x) (bytes_of 4 j)) f
 
-returns : tie.Need-returns
-returns c = let a = c.before.before.before.args in short (dialect_held a.rec.now) (bytes_of 4 a.id) a.x.now (omega arith)
+pub returns-then-x-lt-HEADER_SIZE : goal.returns-then-x-lt-HEADER_SIZE
+returns-then-x-lt-HEADER_SIZE c = let a = c.args in short (dialect_held a.rec.now) (bytes_of 4 a.id) a.x.now (omega arith)
 
-returns-2 : tie.Need-returns-2
-returns-2 c =
-    let s = c.before.before.before.before in
-    let a = s.before.before.args in
+pub returns-then-n-id_in : goal.returns-then-n-id_in
+returns-then-n-id_in c =
+    let s = c in
+    let a = s.args in
     fail (dialect_held a.rec.now) (bytes_of 4 a.id) a.x.now (omega arith)
-    (sym (spells a.x.now c.before.before.u32-at.result c.before.id-in.result (omega arith) (λ k. (s.shared-slice-known2.given k).fits) (omega arith) c.before.before.u32-at.ensures c.before.id-in.ensures)
-    ∙ eq-eqb _ _ c.if2.true)
+    (sym (spells a.x.now c.u32_at-n.result c.id_in.result (omega arith) (λ k. (s.type_inv.x k).fits) (omega arith) c.u32_at-n.ensures c.id_in.ensures)
+    ∙ eq-eqb _ _ c.if-n-id_in.true)
 
-returns-3 : tie.Need-returns-3
-returns-3 c =
-    let s = c.before.before.before.before in
-    let a = s.before.before.args in
-    let n = c.before.before.u32-at in
-    let bytes : Bytes a.x.now = λ k. (s.shared-slice-known2.given k).fits in
+pub returns : goal.returns
+returns c =
+    let s = c in
+    let a = s.args in
+    let n = c.u32_at-n in
+    let bytes : Bytes a.x.now = λ k. (s.type_inv.x k).fits in
     spells a.x.now n.result a.id (omega arith) bytes (omega arith) n.ensures refl
     ∙ other (dialect_held a.rec.now) (bytes_of 4 a.id) a.x.now (omega arith)
-    (sym (spells a.x.now n.result c.before.id-in.result (omega arith) bytes (omega arith) n.ensures c.before.id-in.ensures)
-    ∙ ne_eqb _ _ c.if2.false)
-
-pub heads-spec : {M : Type 1} → statement M
-heads-spec = tie.close (tie.spec returns (λ c κs. search rules) (λ c κs. search rules) returns-2 returns-3)
+    (sym (spells a.x.now n.result c.id_in.result (omega arith) bytes (omega arith) n.ensures c.id_in.ensures)
+    ∙ ne_eqb _ _ c.if-n-id_in.false)
