@@ -66,6 +66,9 @@ returns-then-end-eq0 c =
 pub slice_bounds-short_len-count : goal.slice_bounds-short_len-count
 slice_bounds-short_len-count c = omega (arith, (end (goal.at.slice_bounds-short_len-count c).Else-end-eq0).1, c.requires.1, c.number-head.ensures)
 
+pub slice_bounds-short_len-start : goal.slice_bounds-short_len-start
+slice_bounds-short_len-start c = omega (arith, (end (goal.at.slice_bounds-short_len-start c).Else-end-eq0).1, c.requires.1, c.number-head.ensures)
+
 pub returns-then-whole-eq0 : goal.returns-then-whole-eq0
 returns-then-whole-eq0 c =
     let a = c.args in
