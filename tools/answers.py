@@ -56,7 +56,7 @@ class Function:
 
     def arm_of(self, place, old):
         """Where a place lies in the arm of a match, the arm's name and its fields."""
-        while place:
+        while place in self.place:
             parent, was, _, _ = self.place[place]
             if was and norm(was) == norm(old) and place in self.arm:
                 return self.arm[place]
@@ -66,14 +66,17 @@ class Function:
     def step(self, place, old):
         """The name of a step today, looked for from a place upwards."""
         first = None
-        while place:
+        while place in self.place:
             parent, was, now, _ = self.place[place]
             if was and norm(was) == norm(old):
                 return now
             place = parent
-        for parent, was, now, _ in self.place.values():
-            if was and norm(was) == norm(old):
-                first = now
+        for name in (old, re.sub(r"\d+$", "", old)):
+            for parent, was, now, _ in self.place.values():
+                if was and norm(was) == norm(name):
+                    first = now
+            if first:
+                return first
         return first
 
     def typed(self, old):
@@ -179,6 +182,8 @@ def body_of(f, text, variable, place, need, helpers):
         if m[1] not in places:
             return m[0]
         first, rest = m[2], m[3]
+        if first == "pre":
+            return f"{m[1]}.requires{rest}"
         if first in ("args", "requires", "ranges", "lifetimes", "well_formed", "type_inv"):
             return m[0]
         if rest.startswith(".given") and f.typed(first):
@@ -191,6 +196,7 @@ def body_of(f, text, variable, place, need, helpers):
                     return f"{m[1]}.{arm[0]}.{field}{rest[len(dotted):]}"
         now = f.step(places[m[1]], first) if places[m[1]] in f.place else f.step(place, first)
         if now:
+            rest = {".left": ".false", ".taken": ".true"}.get(rest, rest) if now.startswith("if-") else rest
             return f"{m[1]}.{now}{f.of_call(first, rest)}"
         return m[0]
 
@@ -225,6 +231,9 @@ def labelled(clause, labels, notes):
         if now.strip():
             parts.append(now.strip())
     if depth or len(parts) != len(labels):
+        if len(labels) > 1 and last.count("(") == last.count(")"):
+            fields = "; ".join(f"{l} = both.{n}" for n, l in enumerate(labels))
+            return head + eq + rest[:cut] + f"\n    let both = {last} in\n    record {{ {fields} }}"
         notes.append(f"asks {labels}: {last[:60]}")
         return clause
     made = "record { " + "; ".join(f"{l} = {re.sub(chr(10) + ' *', ' ', p)}" for l, p in zip(labels, parts)) + " }"
@@ -264,6 +273,23 @@ def uses(imports, text):
     return [f"use {w}.{{{', '.join(n)}}}" for w, n in lists.items()] + wholes
 
 
+def opened(text):
+    """The file without its abbreviations over a place, which stand at their uses: a later record has the steps of an earlier one."""
+    while True:
+        m = re.search(r"(?m)^abbrev (\S+) : tie\.(?:At|After|Then|Else|In|Start|Joined)[^\n→]* → [^\n]*\n\1 (\S+) = ([^\n]+)\n(?=\n|\Z)", text)
+        if not m:
+            return text
+        name, variable, body = m[1], m[2], m[3]
+        text = text[: m.start()].rstrip("\n") + "\n\n" + text[m.end():].lstrip("\n")
+
+        def put(u):
+            made = re.sub(r"(?<![\w.'◌-])" + re.escape(variable) + r"(?![\w'-])", u[1] + u[2], body)
+            return made if re.fullmatch(r"\S+", made) else f"({made})"
+
+        text = re.sub(r"(?<![\w.'◌-])" + re.escape(name) + r" (" + TOKEN + r")((?:\.before)*)(?![\w'-])", put, text)
+        text = re.sub(r"\((" + TOKEN + r"(?:\.before)+)\)(?=\.)", r"\1", text)
+
+
 def convert(root, crate, key, names):
     path = key.replace(f"Rattle-{crate}-proofs.", "").rsplit(".Lts", 1)[0]
     folder = os.path.join(root, "crates", crate, "proofs", *path.split("."))
@@ -272,6 +298,7 @@ def convert(root, crate, key, names):
         return
     f = Function(crate, path, names)
     text = open(old, encoding="utf-8").read()
+    text = opened(text)
     parts = blocks(text)
     imports = heads(text)
     comment = "\n".join(l for l in parts[0].split("\n") if l.startswith("--"))
@@ -378,7 +405,7 @@ def convert(root, crate, key, names):
                 bs = binders[1].split()
                 if bs and bs[-1] in ("κs", "_") and len(bs) > 1:
                     bs = bs[:-1]
-                variable = bs[-1] if bs else "c"
+                variable = "c" if "c" in bs or not bs else bs[-1]
                 clause = need + "".join(" " + b for b in bs) + clause[binders.end(1):]
             clause = body_of(f, clause, variable, place, need, None)
             labels = next((names["asked"].get(o) for o, n in names["needs"] if n == need), None)
@@ -394,7 +421,7 @@ def convert(root, crate, key, names):
                 return f.place[key][3]
             notes.append(f"no place {t[1]}")
             return t[0]
-        section = re.match(r"module _ .*\((\S+) : tie\.(\S+)[^)]*\)", whole)
+        section = re.match(r"module _ .*?\((\S+) : tie\.([^\s)]+)", whole)
         at = None
         if section:
             at = (section[1], norm(section[2].split()[0]))

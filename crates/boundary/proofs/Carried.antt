@@ -150,19 +150,25 @@ module _ (s : St) (x : Inv s) where
 
     pub start-image : (m : Made) → Fine s.ses (begin s m.call (lent_of z m.call)) → recorded.start rec s.rx s.msg m z ≡ image (begin s m.call (lent_of z m.call))
     unfolding cross_start
-    start-image m f = brings _ (begin s m.call (lent_of z m.call)) (ap (back rec z.out) (called s z m.call)) f
+    start-image m f =
+        brings
+        (λ t.
+        back rec z.out
+        (call_numbered (call_number m.call) (first_number z m.call) (flag_number z m.call) t (lent_of z m.call)
+        (request_numbered (call_number m.call) (first_number z m.call) (flag_number z m.call)) (unknown_call t)))
+        (begin s m.call (lent_of z m.call)) (ap (back rec z.out) (called s z m.call)) f
 
     pub wrote-image : (lent : List ℕ) → Fine s.ses (report_wrote s lent) → recorded.on_wrote rec s.rx s.msg lent z ≡ image (report_wrote s lent)
     unfolding cross_wrote
-    wrote-image lent f = brings _ (report_wrote s lent) refl f
+    wrote-image lent f = brings (λ t. back rec z.out (report_wrote t lent)) (report_wrote s lent) refl f
 
     pub fault-image : (lent : List ℕ) (e : End) → Fine s.ses (report_fault s (length lent) (fault_of e))
         → recorded.on_fault rec s.rx s.msg lent e z ≡ image (report_fault s (length lent) (fault_of e))
     unfolding cross_fault
     fault-image lent e f =
-        brings _ (report_fault s (length lent) (fault_of e)) (ap (λ (g : Fault). back rec z.out (report_fault s (length lent) g)) (faulted z e)) f
+        brings (λ t. back rec z.out (report_fault t (length lent) (fault_numbered (end_kind z e) (end_code z e)))) (report_fault s (length lent) (fault_of e)) (ap (λ (g : Fault). back rec z.out (report_fault s (length lent) g)) (faulted z e)) f
 
     pub read-image : (lent : List ℕ) (k : ℕ) → Fine s.ses (report_read s (length lent) k)
         → recorded.on_read rec s.rx s.msg lent k z ≡ image (report_read s (length lent) k)
     unfolding cross_read
-    read-image lent k f = brings _ (report_read s (length lent) k) (read_back_lem s z.out (length lent) k) f
+    read-image lent k f = brings (λ t. back_read rec z.out t (length lent) k) (report_read s (length lent) k) (read_back_lem s z.out (length lent) k) f

@@ -48,7 +48,7 @@ use Rattle.boundary.proofs.Steps.{Inv, Asked, idle, fine}
 use Rattle.boundary_misuse.specs.Misuse.{HostReport, has_read, wrote, fault, Act, start, report, Event, WideAct, Wide, crossed_by, Seen, opened, pending, misfits, call_of, numbered, refusal}
 use Rattle.boundary_misuse.specs.Claim.{heard_of, Answers, seen_after, follow}
 use Rattle.boundary_misuse.proofs.Known.{Own, own_of, misfit-own, seen_of, Knows, knows, pending-is}
-use Rattle.boundary_misuse.proofs.Unchanged.{not-refused}
+use Rattle.boundary_misuse.proofs.Unchanged.{put_back_of, not-refused}
 use Rattle.boundary_misuse.proofs.Table.{Comes, numbered-narrow, behind, behind-narrow, begins, calls, after, misplaced, later, later-narrow, reported, reports}
 
 -- ---- one event
@@ -126,7 +126,7 @@ module _ (s : Session) (sh : Show) (own : Own s) (asked : Asked s sh) (lent rx m
         → Holds v (stored s) (ev (start n a b t)) (refusal v (ev (start n a b t))) (crossed_by (stored s) (ev (start n a b t)))
     unfolding cross_start
     call-holds n a b t p q =
-        holds (start n a b t) (begins s lent rx msg) _ (λ y. refl) _ _ (loads here own.narrow out room _) (call-table n a b t)
+        holds (start n a b t) (begins s lent rx msg) _ (λ y. refl) _ _ (loads here own.narrow out room (put_back_of (stored s) lent out (start n a b t))) (call-table n a b t)
         (behind-narrow s lent rx msg _ (numbered-narrow v (call_of n a b lent))) (calls s lent rx msg own.narrow short few bytes sh a b p q n)
 
     -- a report
@@ -135,9 +135,9 @@ module _ (s : Session) (sh : Show) (own : Own s) (asked : Asked s sh) (lent rx m
 
     report-crosses : (r : HostReport) → crossed_by (stored s) (ev (report r)) ≡ back (stored s) out (reported s lent rx msg r)
     unfolding cross_read cross_wrote cross_fault
-    report-crosses (has_read k) = loads here own.narrow out room _ ∙ read_back_lem here out (length lent) k
-    report-crosses wrote = loads here own.narrow out room _
-    report-crosses (fault kind code) = loads here own.narrow out room _
+    report-crosses (has_read k) = loads here own.narrow out room (put_back_of (stored s) lent out (report (has_read k))) ∙ read_back_lem here out (length lent) k
+    report-crosses wrote = loads here own.narrow out room (put_back_of (stored s) lent out (report wrote))
+    report-crosses (fault kind code) = loads here own.narrow out room (put_back_of (stored s) lent out (report (fault kind code)))
 
     event-holds : (x : Act) → WideAct x → Holds v (stored s) (ev x) (refusal v (ev x)) (crossed_by (stored s) (ev x))
     event-holds (start n a b t) (p, (q, _)) = call-holds n a b t p q
@@ -152,7 +152,7 @@ module _ (s : Session) (sh : Show) (own : Own s) (asked : Asked s sh) (lent rx m
 
     pub crosses : (x : Act) → crossed_by (stored s) (ev x) ≡ back (stored s) out (out_of x)
     unfolding cross_start
-    crosses (start n a b t) = loads here own.narrow out room _
+    crosses (start n a b t) = loads here own.narrow out room (put_back_of (stored s) lent out (start n a b t))
     crosses (report r) = report-crosses r
 
     pub let_in : (x : Act) → WideAct x → refusal v (ev x) ≡ none → Inv (out_of x).st × (is_refusal (out_of x).reply ≡ false)

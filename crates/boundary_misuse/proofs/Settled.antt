@@ -31,9 +31,10 @@ use Rattle.boundary.proofs.Reports.{NarrowRefusal, lets, by_number, by_feature}
 use Rattle.boundary.proofs.Steps.{narrow-of}
 use Rattle.boundary_misuse.specs.Misuse.{HostReport, has_read, wrote, fault, Act, start, report, Event, WideAct, Wide, acted, crossed_by, call_of}
 use Rattle.boundary_misuse.specs.Settled.{places, settled, SettledClaim}
+use Rattle.boundary_misuse.proofs.Known.{seen_of}
 use Rattle.boundary_misuse.proofs.Loaded.{Widths, loaded-narrow}
 use Rattle.boundary_misuse.proofs.Table.{Comes, numbered-narrow, behind-narrow, calls, later-narrow, reported, reports}
-use Rattle.boundary_misuse.proofs.Unchanged.{asks, asked_of}
+use Rattle.boundary_misuse.proofs.Unchanged.{put_back_of, asks, asked_of}
 
 -- ---- another number
 
@@ -148,14 +149,14 @@ module _ (rec : List ℕ) (bytes : Bytes rec) where
     event-kept : (x : Act) → WideAct x → Kept (acted rec e x)
     unfolding cross_start cross_read cross_wrote cross_fault
     event-kept (start n a b t) (p, (q, _)) =
-        crossing-kept _
-        (λ s m l i. back-kept s i _ _ refl _ (behind-narrow s e.lent e.rx e.msg _ (numbered-narrow _ (call_of n a b e.lent)))
+        crossing-kept (put_back_of rec e.lent e.out (start n a b t))
+        (λ s m l i. back-kept s i _ _ refl _ (behind-narrow s e.lent e.rx e.msg _ (numbered-narrow (seen_of (frame_of s) (told P.done)) (call_of n a b e.lent)))
         (calls s e.lent e.rx e.msg m few w.msg w.rx (told P.done) a b p q n))
     event-kept (report (has_read k)) x =
-        crossing-kept _
+        crossing-kept (put_back_of rec e.lent e.out (report (has_read k)))
         (λ s m l i. pick-cases Kept (stays (st s e.rx e.msg) (length e.lent) k) (λ _. tail-settled (s.buf.tail + k) l) (λ _. report-kept (has_read k) x s m i))
-    event-kept (report wrote) x = crossing-kept _ (λ s m l i. report-kept wrote x s m i)
-    event-kept (report (fault kind code)) x = crossing-kept _ (λ s m l i. report-kept (fault kind code) x s m i)
+    event-kept (report wrote) x = crossing-kept (put_back_of rec e.lent e.out (report wrote)) (λ s m l i. report-kept wrote x s m i)
+    event-kept (report (fault kind code)) x = crossing-kept (put_back_of rec e.lent e.out (report (fault kind code))) (λ s m l i. report-kept (fault kind code) x s m i)
 
 pub settled-stays : SettledClaim crossed_by
 settled-stays rec bytes e w = event-kept rec bytes e w e.act w.act

@@ -23,16 +23,25 @@ use Rattle.session.specs.declared.Reply.{Reply}
 use Rattle.session.specs.declared.Reply.TheVariants as R
 use Rattle.session.specs.declared.Session.{Session}
 use Rattle.session.specs.Host.{Show, told, read, write_bytes, close}
+use Rattle.session.specs.Reports.{report_wrote, report_fault}
 use Rattle.session.specs.State.{St, st, Out}
-use Rattle.session.proofs.Turns.{Frame}
-use Rattle.boundary.specs.Crossing.{Crossed, turned_away, is_refusal, back, on_loaded, crossing, stays, cross_start, cross_read, cross_wrote, cross_fault}
+use Rattle.session.proofs.Turns.{Frame, frame_of}
+use Rattle.boundary.specs.Crossing.{Crossed, turned_away, is_refusal, back, on_loaded, crossing, request_numbered, call_numbered, unknown_call, stays, cross_start, back_read, cross_read, cross_wrote, fault_numbered, cross_fault}
 use Rattle.boundary.specs.Told.{reply_number, out_size}
 use Rattle.boundary.proofs.Reports.{NarrowRefusal, lets, by_number, by_feature}
 use Rattle.boundary.proofs.Steps.{Awaits, idle, reads, writes_bytes, closes}
 use Rattle.boundary_misuse.specs.Misuse.{HostReport, has_read, wrote, fault, Act, start, report, Event, WideAct, Wide, acted, crossed_by, call_of}
 use Rattle.boundary_misuse.specs.Claim.{IsRefused, Unchanged}
+use Rattle.boundary_misuse.proofs.Known.{seen_of}
 use Rattle.boundary_misuse.proofs.Loaded.{Widths, loaded-narrow}
 use Rattle.boundary_misuse.proofs.Table.{Comes, numbered-narrow, behind-narrow, calls, later-narrow, reported, reports}
+
+-- what is put back of an act, once the session is loaded
+abbrev pub put_back_of : (rec lent out : List ℕ) → Act → St → Crossed
+put_back_of rec lent out (start n a b t) s = back rec out (call_numbered n a b s lent (request_numbered n a b) (unknown_call s))
+put_back_of rec lent out (report (has_read k)) s = back_read rec out s (length lent) k
+put_back_of rec lent out (report wrote) s = back rec out (report_wrote s lent)
+put_back_of rec lent out (report (fault kind code)) s = back rec out (report_fault s (length lent) (fault_numbered kind code))
 
 -- ---- numbers
 
@@ -129,14 +138,14 @@ module _ (rec : List ℕ) (bytes : Bytes rec) (e : Event) (w : Wide e) where
   pub event-kept : (x : Act) → WideAct x → Kept (acted rec e x)
   unfolding cross_start cross_read cross_wrote cross_fault
   event-kept (start n a b t) (p, (q, _)) =
-      crossing-kept _
-      (λ s m. back-kept s _ _ _ (behind-narrow s e.lent e.rx e.msg _ (numbered-narrow _ (call_of n a b e.lent)))
+      crossing-kept (put_back_of rec e.lent e.out (start n a b t))
+      (λ s m. back-kept s _ _ _ (behind-narrow s e.lent e.rx e.msg _ (numbered-narrow (seen_of (frame_of s) (told P.done)) (call_of n a b e.lent)))
       (calls s e.lent e.rx e.msg m few w.msg w.rx (told P.done) a b p q n))
   event-kept (report (has_read k)) x =
-      crossing-kept _
+      crossing-kept (put_back_of rec e.lent e.out (report (has_read k)))
       (λ s m. pick-cases Kept (stays (st s e.rx e.msg) (length e.lent) k) (λ _. inr (λ n i a. absurd (omega arith))) (λ _. report-kept (has_read k) x s m))
-  event-kept (report wrote) x = crossing-kept _ (report-kept wrote x)
-  event-kept (report (fault kind code)) x = crossing-kept _ (report-kept (fault kind code) x)
+  event-kept (report wrote) x = crossing-kept (put_back_of rec e.lent e.out (report wrote)) (report-kept wrote x)
+  event-kept (report (fault kind code)) x = crossing-kept (put_back_of rec e.lent e.out (report (fault kind code))) (report-kept (fault kind code) x)
 
   pub event-unchanged : IsRefused (crossed_by rec e) → Unchanged rec e (crossed_by rec e)
   event-unchanged (n, h, i) = go (event-kept e.act w.act)

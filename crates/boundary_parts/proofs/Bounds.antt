@@ -23,17 +23,18 @@ use Rattle.session.specs.Calls.{misfit, is_idle}
 use Rattle.session.specs.Host.{Show, told}
 use Rattle.session.specs.Reports.{report_read}
 use Rattle.session.specs.State.{St, st, Out}
-use Rattle.session.proofs.Turns.{Frame}
+use Rattle.session.proofs.Turns.{Frame, frame_of}
 use Rattle.boundary.specs.Crossing.{Crossed, crossed, back, on_loaded, crossing, stays, cross_start, cross_read, cross_wrote, cross_fault}
 use Rattle.boundary.specs.Told.{reply_number, reply_bytes, out_size}
 use Rattle.boundary.proofs.Carried.{stays-read}
 use Rattle.boundary.proofs.Reports.{NarrowRefusal, lets, by_number, by_feature}
 use Rattle.boundary.proofs.Steps.{narrow-of}
 use Rattle.boundary_misuse.specs.Functions.{session_functions}
-use Rattle.boundary_misuse.specs.Misuse.{HostReport, has_read, wrote, fault, report, WideAct, call_of}
+use Rattle.boundary_misuse.specs.Misuse.{HostReport, has_read, wrote, fault, start, report, WideAct, call_of}
+use Rattle.boundary_misuse.proofs.Known.{seen_of}
 use Rattle.boundary_misuse.proofs.Loaded.{Widths, loaded-narrow}
 use Rattle.boundary_misuse.proofs.Table.{Comes, numbered-narrow, behind-narrow, calls, misplaced, none-awaited, later, later-narrow, after, reported, reports}
-use Rattle.boundary_misuse.proofs.Unchanged.{asks, asked_of}
+use Rattle.boundary_misuse.proofs.Unchanged.{put_back_of, asks, asked_of}
 use Rattle.boundary_parts.specs.Bounds.{named, told_part, InBounds, PartsInside}
 use Rattle.boundary_parts.proofs.Replies.{reply-in}
 
@@ -104,13 +105,13 @@ pub parts-inside : PartsInside session_functions
 unfolding cross_start cross_read cross_wrote cross_fault
 parts-inside =
     record {
-      start = λ rec rx msg lent n a b t out x y z w p q _. crossing-in rec rx msg lent out x y z w _ (λ o s m.
-          back_in rec rx msg lent out x y z w o s _ _ _ (behind-narrow s lent rx msg _ (numbered-narrow _ (call_of n a b lent)))
+      start = λ rec rx msg lent n a b t out x y z w p q _. crossing-in rec rx msg lent out x y z w (put_back_of rec lent out (start n a b t)) (λ o s m.
+          back_in rec rx msg lent out x y z w o s _ _ _ (behind-narrow s lent rx msg _ (numbered-narrow (seen_of (frame_of s) (told P.done)) (call_of n a b lent)))
           (calls s lent rx msg m (omega arith) z y (told P.done) a b p q n) (λ e. refl));
-      read = λ rec rx msg lent k out x y z w. crossing-in rec rx msg lent out x y z w _ (λ o s m.
+      read = λ rec rx msg lent k out x y z w. crossing-in rec rx msg lent out x y z w (put_back_of rec lent out (report (has_read k))) (λ o s m.
           pick-cases (InBounds lent) (stays (st s rx msg) (length lent) k) (λ e. read-in rec rx msg lent out x y z w o k s m e (put rec 24 (bytes_of 8 (s.buf.tail + k))))
           (λ e. report-in rec rx msg lent out x y z w o (has_read k) tt s m));
-      wrote = λ rec rx msg lent out x y z w. crossing-in rec rx msg lent out x y z w _ (λ o s m. report-in rec rx msg lent out x y z w o wrote tt s m);
-      fault = λ rec rx msg lent kind code out x y z w h. crossing-in rec rx msg lent out x y z w _ (λ o s m.
+      wrote = λ rec rx msg lent out x y z w. crossing-in rec rx msg lent out x y z w (put_back_of rec lent out (report wrote)) (λ o s m. report-in rec rx msg lent out x y z w o wrote tt s m);
+      fault = λ rec rx msg lent kind code out x y z w h. crossing-in rec rx msg lent out x y z w (put_back_of rec lent out (report (fault kind code))) (λ o s m.
           report-in rec rx msg lent out x y z w o (fault kind code) h s m);
     }

@@ -1,34 +1,40 @@
 // Prints the requests of a stream that a host wrote, however long it is: where each starts, its published id, what it carries (path and data
 // in hexadecimal). What can't be read ends it: 18 and its place; `more` and how many bytes are there of a request that the stream ends in; 13
-// where a read failed.
+// where a read failed. What can't be written is left out.
+#![tactic(auto)]
+
 ghost use Rattle.std.specs.Prelude.{◌≤◌, length};
 
 use ids::Ids;
-use libc::{STDIN_FILENO, STDOUT_FILENO};
 use recv_buf::{Hold, RecvBuf};
 use request::Request;
 use request_reader::{Read, lent_part, read_request};
+use std::io;
 use std::num::wrapping_add_u64;
 
 const DIGITS: [u8; 16] = *b"0123456789ABCDEF";
 
 // Whole requests: how many bytes they have, and whether the next can't be read.
-#[derive(Drop)]
+#[derive(Clone, Copy)]
 struct Printed {
     size: usize,
     refused: bool,
 }
 
 // The bytes that are read and not yet printed, the place of the first of them in the stream, and whether there is more to do.
-#[derive(Drop)]
+#[derive(Clone, Copy)]
 struct State {
     buf: RecvBuf,
     at: u64,
     on: bool,
 }
 
-fn print(text: &[u8]) {
-    io::write_all(STDOUT_FILENO, text);
+fn print(rt: &impl Print, text: &[u8]) {
+    let _ = rt.write_all(text);
+}
+
+fn print_decimal(rt: &impl Print, n: u64) {
+    let _ = print!(rt; "{n}");
 }
 
 // A byte's two digits.
@@ -58,8 +64,8 @@ fn put_hex(part: &[u8], out: &mut [u8]) -> usize
     to
 }
 
-fn print_hex(part: &[u8]) {
-    let mut space = io::buffer();
+fn print_hex(rt: &impl Print, part: &[u8]) {
+    let mut space = [0u8; 4096];
     let digits: &mut [u8] = &mut space;
     let mut from = 0;
     while from < part.len() {
@@ -67,55 +73,55 @@ fn print_hex(part: &[u8]) {
         if n < 2 {
             return;
         }
-        print(&digits[..n]);
+        print(rt, &digits[..n]);
         from += n / 2;
     }
 }
 
-fn print_number(n: u32) {
-    print(b",");
-    io::print_decimal(STDOUT_FILENO, n as u64);
+fn print_number(rt: &impl Print, n: u32) {
+    print(rt, b",");
+    print_decimal(rt, n as u64);
 }
 
 // An id, and the path or the data behind it.
-fn print_lent(id: &[u8], part: &[u8]) {
-    print(id);
-    print(b",");
-    print_hex(part);
+fn print_lent(rt: &impl Print, id: &[u8], part: &[u8]) {
+    print(rt, id);
+    print(rt, b",");
+    print_hex(rt, part);
 }
 
-fn print_request(q: Request, part: &[u8]) {
+fn print_request(rt: &impl Print, q: Request, part: &[u8]) {
     match q {
-        Request::Stat => print_lent(b",STAT", part),
-        Request::Sta2 => print_lent(b",STA2", part),
-        Request::List => print_lent(b",LIST", part),
-        Request::Lis2 => print_lent(b",LIS2", part),
-        Request::Recv => print_lent(b",RECV", part),
+        Request::Stat => print_lent(rt, b",STAT", part),
+        Request::Sta2 => print_lent(rt, b",STA2", part),
+        Request::List => print_lent(rt, b",LIST", part),
+        Request::Lis2 => print_lent(rt, b",LIS2", part),
+        Request::Recv => print_lent(rt, b",RECV", part),
         Request::Rcv2(flags) => {
-            print_lent(b",RCV2", part);
-            print_number(flags.0);
+            print_lent(rt, b",RCV2", part);
+            print_number(rt, flags.0);
         }
         Request::Send(mode) => {
-            print_lent(b",SEND", part);
-            print_number(mode.0);
+            print_lent(rt, b",SEND", part);
+            print_number(rt, mode.0);
         }
         Request::Snd2(mode, flags) => {
-            print_lent(b",SND2", part);
-            print_number(mode.0);
-            print_number(flags.0);
+            print_lent(rt, b",SND2", part);
+            print_number(rt, mode.0);
+            print_number(rt, flags.0);
         }
-        Request::Data => print_lent(b",DATA", part),
+        Request::Data => print_lent(rt, b",DATA", part),
         Request::Done(mtime) => {
-            print(b",DONE");
-            print_number(mtime);
+            print(rt, b",DONE");
+            print_number(rt, mtime);
         }
-        Request::Quit => print(b",QUIT"),
+        Request::Quit => print(rt, b",QUIT"),
     }
-    print(b"\n");
+    print(rt, b"\n");
 }
 
 // The request at the front of a stream.
-fn print_next(ids: Ids, at: u64, rest: &[u8]) -> Printed {
+fn print_next(rt: &impl Print, ids: Ids, at: u64, rest: &[u8]) -> Printed {
     let read = read_request(ids, rest);
     match read {
         Read::More => Printed {
@@ -123,8 +129,8 @@ fn print_next(ids: Ids, at: u64, rest: &[u8]) -> Printed {
             refused: false,
         },
         Read::Refused => {
-            io::print_decimal(STDOUT_FILENO, at);
-            print(b",18\n");
+            print_decimal(rt, at);
+            print(rt, b",18\n");
             Printed {
                 size: 0,
                 refused: true,
@@ -135,8 +141,8 @@ fn print_next(ids: Ids, at: u64, rest: &[u8]) -> Printed {
             lent,
             size,
         } => {
-            io::print_decimal(STDOUT_FILENO, at);
-            print_request(request, lent_part(rest, lent));
+            print_decimal(rt, at);
+            print_request(rt, request, lent_part(rest, lent));
             Printed {
                 size,
                 refused: false,
@@ -146,10 +152,10 @@ fn print_next(ids: Ids, at: u64, rest: &[u8]) -> Printed {
 }
 
 // The whole requests at the front of a stream.
-fn print_all(ids: Ids, at: u64, unread: &[u8]) -> Printed {
+fn print_all(rt: &impl Print, ids: Ids, at: u64, unread: &[u8]) -> Printed {
     let mut done = 0;
     while done < unread.len() {
-        let next = print_next(ids, wrapping_add_u64(at, done as u64), &unread[done..]);
+        let next = print_next(rt, ids, wrapping_add_u64(at, done as u64), &unread[done..]);
         let size = next.size;
         let stopped = Printed {
             size: done,
@@ -170,32 +176,46 @@ fn print_all(ids: Ids, at: u64, unread: &[u8]) -> Printed {
 }
 
 // One read to the end of the bytes that are held: how many came.
-fn read_some(at: u64, buf: RecvBuf, buffer: &mut [u8]) -> usize {
+fn read_some(
+    rt: &impl Print,
+    input: &mut impl io::Read,
+    at: u64,
+    buf: RecvBuf,
+    buffer: &mut [u8],
+) -> usize {
     let window = buf.window(buffer);
-    let got = libc::read(STDIN_FILENO, window);
-    if got < 0 {
-        io::print_decimal(STDOUT_FILENO, at);
-        print(b",13\n");
+    match input.read(window) {
+        Ok(count) => count,
+        Err(_) => {
+            print_decimal(rt, at);
+            print(rt, b",13\n");
+            0
+        }
     }
-    io::count(got, window)
 }
 
 // The stream is at its end; a request that is not whole is said.
-fn finish(at: u64, buf: RecvBuf) -> State {
+fn finish(rt: &impl Print, at: u64, buf: RecvBuf) -> State {
     let held = buf.held();
     if held > 0 {
-        io::print_decimal(STDOUT_FILENO, at);
-        print(b",more,");
-        io::print_decimal(STDOUT_FILENO, held as u64);
-        print(b"\n");
+        print_decimal(rt, at);
+        print(rt, b",more,");
+        print_decimal(rt, held as u64);
+        print(rt, b"\n");
     }
     State { buf, at, on: false }
 }
 
-fn came(at: u64, buf: RecvBuf, buffer: &mut [u8]) -> State {
-    let count = read_some(at, buf, buffer);
+fn came(
+    rt: &impl Print,
+    input: &mut impl io::Read,
+    at: u64,
+    buf: RecvBuf,
+    buffer: &mut [u8],
+) -> State {
+    let count = read_some(rt, input, at, buf, buffer);
     if count == 0 {
-        return finish(at, buf);
+        return finish(rt, at, buf);
     }
     State {
         buf: buf.fill(count, buffer.len()),
@@ -205,9 +225,15 @@ fn came(at: u64, buf: RecvBuf, buffer: &mut [u8]) -> State {
 }
 
 // Prints what is whole and reads on: the bytes move to the front where the buffer is full.
-fn turn(ids: Ids, s: State, buffer: &mut [u8]) -> State {
+fn turn(
+    rt: &impl Print,
+    input: &mut impl io::Read,
+    ids: Ids,
+    s: State,
+    buffer: &mut [u8],
+) -> State {
     let before = s.buf;
-    let printed = print_all(ids, s.at, before.peek(buffer));
+    let printed = print_all(rt, ids, s.at, before.peek(buffer));
     let at = wrapping_add_u64(s.at, printed.size as u64);
     let buf = before.take(printed.size);
     if printed.refused {
@@ -215,32 +241,33 @@ fn turn(ids: Ids, s: State, buffer: &mut [u8]) -> State {
     }
     let held = buf.held();
     if buffer.len() <= held {
-        return finish(at, buf);
+        return finish(rt, at, buf);
     }
     let wanted = buf.hold(buffer, held + 1);
     match wanted {
-        Hold::TooLarge => finish(at, buf),
-        Hold::Held => finish(at, buf),
-        Hold::Read(moved) => came(at, moved, buffer),
+        Hold::TooLarge => finish(rt, at, buf),
+        Hold::Held => finish(rt, at, buf),
+        Hold::Read(moved) => came(rt, input, at, moved, buffer),
     }
 }
 
-// A proved loop ends, and nothing says that a stream does: the turns are counted down from a number that no run uses up.
-fn print_stream(ids: Ids, buffer: &mut [u8]) {
-    let mut turns = u64::MAX;
+// A proved loop ends, and nothing says that a stream does: the turns are counted, and no run uses them up.
+fn print_stream(rt: &impl Print, input: &mut impl io::Read, ids: Ids, buffer: &mut [u8]) {
     let mut s = State {
         buf: RecvBuf::new(),
         at: 0,
         on: true,
     };
-    while turns > 0 && s.on {
-        s = turn(ids, s, buffer);
-        turns -= 1;
+    for _ in 0..u64::MAX {
+        if !s.on {
+            return;
+        }
+        s = turn(rt, input, ids, s, buffer);
     }
 }
 
 // Room for the longest request, a DATA of 65,544 bytes, and nearly as much again.
-fn main() {
+fn main(rt: HostRuntime) {
     let mut buffer = [0u8; 131072];
-    print_stream(Ids::published(), &mut buffer);
+    print_stream(&rt, &mut rt.stdin(), Ids::published(), &mut buffer);
 }

@@ -26,9 +26,10 @@ use Rattle.session.proofs.Turns.{Frame, frame_of}
 use Rattle.boundary.specs.Crossing.{call_numbered, request_numbered, unknown_call, cross_start}
 use Rattle.boundary.specs.Told.{out_size, reply_number}
 use Rattle.boundary.proofs.Reports.{NarrowRefusal, lets, by_number, by_feature, request-narrow}
-use Rattle.boundary_misuse.specs.Misuse.{call_of}
+use Rattle.boundary_misuse.specs.Misuse.{start, call_of}
 use Rattle.boundary_misuse.proofs.Known.{seen_of}
 use Rattle.boundary_misuse.proofs.Table.{Comes, numbered-narrow, behind, begins, calls}
+use Rattle.boundary_misuse.proofs.Unchanged.{put_back_of}
 use Rattle.totals.specs.Crossing.{refuses}
 use Rattle.totals.proofs.Card.{refuses-low}
 use Rattle.totals.proofs.Sizes.{unrefused}
@@ -64,7 +65,7 @@ module _ (rec rx msg lent out : List ℕ) (a b : ℕ) (p : a < 2 ^ 32) (q : b < 
   on-session : Bytes rec → out_size ≤ length out → ((s : Session) → Narrow s → Told s)
       → takes_push (loaded rec) (length rx) (length msg) lent n a b ≡ not (refuses (cross_start rec rx msg lent n a b out).number)
   unfolding takes_push cross_start
-  on-session f o g = on-record rec rx msg lent out f o (λ (y : Option Session). takes_push y (length rx) (length msg) lent n a b) _ refl g
+  on-session f o g = on-record rec rx msg lent out f o (λ (y : Option Session). takes_push y (length rx) (length msg) lent n a b) (put_back_of rec lent out (start n a b 0)) refl g
 
 module _ (rec rx msg lent out : List ℕ) (a b : ℕ) (p : a < 2 ^ 32) (q : b < 2 ^ 32) (bytes : Bytes rx) (few : length msg < 2 ^ 63) (short : length lent < 2 ^ 63) where
   -- either version

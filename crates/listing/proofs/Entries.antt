@@ -14,7 +14,6 @@ use Rattle.format_record.specs.declared.StatV1.{StatV1}
 use Rattle.listing_lines.specs.Lines.{entry_line, end_line, laid_in, entry_room, end_room, Laid}
 use Rattle.listing_lines.proofs.Laws.{laid_none, laid-length, laid-laid, laid_of, entry_length_lem, end-length}
 use Rattle.session_part.specs.Part.{handed}
-use Rattle.session.specs.declared.Answer.{Answer}
 use Rattle.session.specs.declared.Session.{Session}
 use Rattle.session.specs.declared.Version.TheVariants.{V1}
 use Rattle.session.specs.Calls.{entry_call}

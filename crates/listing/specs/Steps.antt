@@ -5,7 +5,6 @@ use Rattle.protocol.specs.Bytes.{pick}
 use Rattle.protocol.specs.Features.{features_of}
 use Rattle.protocol.specs.Ids.{letters}
 use Rattle.protocol.specs.Records.{Stat}
-use Rattle.format_record.specs.declared.StatV1.{StatV1}
 use Rattle.ids.specs.Ids.{ids_of}
 use Rattle.listing_lines.specs.Lines.{entry_line, laid_in, heading_room, entry_room, end_room}
 use Rattle.session.specs.declared.Answer.{Answer}

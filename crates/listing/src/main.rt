@@ -1,5 +1,7 @@
 // Prints a v1 listing reply that comes on standard input: a line per entry, then how the listing ended. At most 4,096 bytes are read; they
-// go straight into the receive buffer, which is the window that the first listing step asks.
+// go straight into the receive buffer, which is the window that the first listing step asks. What can't be written is left out.
+#![tactic(auto)]
+
 ghost use Rattle.std.specs.Prelude.{List, ◌≡◌, ℕ, ◌≤◌, length, take};
 ghost use Rattle.format_record.specs.Told.{told_stat};
 ghost use Rattle.listing_lines.specs.Lines.{Laid};
@@ -12,21 +14,21 @@ ghost use Rattle.listing.specs.Steps.{told, told_by, ended, first_out, line_of, 
 
 use format_record::StatV1;
 use ids::Ids;
-use libc::{STDIN_FILENO, STDOUT_FILENO};
 use listing_lines::{put_end, put_entry, put_heading};
 use session::{Answer, Fault, Reply, Session, Stepped, Version};
 use session_calls::{Opened, next_entry, open};
 use session_part::part;
+use std::io;
 
 // A listing step that is over.
-#[derive(Drop)]
+#[derive(Clone, Copy)]
 struct Heard {
     session: Session,
     answer: Answer,
 }
 
 // What an answer is printed as: an entry's line, or the end with its number.
-#[derive(Drop)]
+#[derive(Clone, Copy)]
 enum Line {
     Entry(StatV1),
     End(u8),
@@ -190,11 +192,26 @@ fn list(rx: &mut [u8], msg: &mut [u8], n: usize, out: &mut [u8]) -> usize
     }
 }
 
-fn main() {
+// Reads until buf is full, the input ends or a read fails: how many bytes came.
+fn read_full(input: &mut impl io::Read, buf: &mut [u8]) -> usize
+    ensures { result ≤ length buf.new }
+{
+    let mut done = 0;
+    while done < buf.len() {
+        let count = input.read(&mut buf[done..]).unwrap_or(0);
+        if count == 0 {
+            return done;
+        }
+        done += count;
+    }
+    done
+}
+
+fn main(rt: HostRuntime) {
     let mut rx = [0u8; 4096];
     let mut msg = [0u8; 4096];
     let mut out = [0u8; 8228];
-    let n = io::read_full(STDIN_FILENO, &mut rx);
+    let n = read_full(&mut rt.stdin(), &mut rx);
     let count = list(&mut rx, &mut msg, n, &mut out);
-    io::write_all(STDOUT_FILENO, &out[..count]);
+    let _ = rt.write_all(&out[..count]);
 }

@@ -1,10 +1,10 @@
 -- Laws of bytes put one behind the other, and of what is said. Assumes nothing.
-use mathlib.Core.Bool.{Bool, true, false, not, ◌&&◌, and-eq-true_iff}
+use mathlib.Core.Bool.{Bool, true, false, ◌&&◌, and-eq-true_iff}
 use mathlib.Core.List.{List, ◌++◌}
 use mathlib.Core.Path.{◌≡◌, sym, ap, ◌∙◌}
 use Prim.Native.Nat.{ℕ, ◌+◌, ◌≤◌, ◌<◌}
 use native.Mathlib.Omega.{arith}
-use borrow.Author.Tests.{leb-true, ltb-true, le-leb, not-true, not-false}
+use borrow.Author.Tests.{leb-true, ltb-true, le-leb}
 use lib.Dec.{leb}
 use lib.ListN.{length, length-append}
 use Rattle.protocol.specs.Bytes.{put}
@@ -33,10 +33,10 @@ module _ (t : Bool) (m out : List ℕ) where
 
 -- the test of `has_room`: k bytes and what is lent behind them
 module _ (k : ℕ) (x out : List ℕ) {t : Bool} (test : t ≡ fits32 (length x) && leb (k + length x) (length out)) where
-  held : not t ≡ false → (fits32 (length x) ≡ true) × (leb (k + length x) (length out) ≡ true)
-  held h = (and-eq-true_iff (fits32 (length x)) (leb (k + length x) (length out))).0 (sym test ∙ not-false t h)
+  held : t ≡ true → (fits32 (length x) ≡ true) × (leb (k + length x) (length out) ≡ true)
+  held h = (and-eq-true_iff (fits32 (length x)) (leb (k + length x) (length out))).0 (sym test ∙ h)
 
-  pub room : not t ≡ false → (length x < 0x1_0000_0000) × (k + length x ≤ length out)
+  pub room : t ≡ true → (length x < 0x1_0000_0000) × (k + length x ≤ length out)
   room h = (ltb-true _ _ (held h).0, leb-true _ _ (held h).1)
 
   -- ... of which all but four are f, and four the count of what is lent
@@ -44,10 +44,10 @@ module _ (k : ℕ) (x out : List ℕ) {t : Bool} (test : t ≡ fits32 (length x)
     all : length (f ++ with_length x) ≡ k + length x
     all = omega (arith, length-append f (with_length x), length-append (word (length x)) x)
 
-    pub no_room : not t ≡ true → (out, 0) ≡ written (fits32 (length x)) (f ++ with_length x) out
-    no_room h = written_out (fits32 (length x)) (f ++ with_length x) out (rw all (sym test ∙ not-true t h))
+    pub no_room : t ≡ false → (out, 0) ≡ written (fits32 (length x)) (f ++ with_length x) out
+    no_room h = written_out (fits32 (length x)) (f ++ with_length x) out (rw all (sym test ∙ h))
 
-    pub counted-said : {l l' : List ℕ} (next : ℕ) → length f ≡ next → not t ≡ false → l ≡ put out 0 f → l' ≡ put l next (with_length x)
+    pub counted-said : {l l' : List ℕ} (next : ℕ) → length f ≡ next → t ≡ true → l ≡ put out 0 f → l' ≡ put l next (with_length x)
         → ◌≡◌ {A = List ℕ × ℕ} (l', k + length x) (written (fits32 (length x)) (f ++ with_length x) out)
     counted-said next g h p q =
         let r = room h in

@@ -1,44 +1,51 @@
 // Replays recorded lists of calls through the session and prints what each step answers: its number and kind, the numbers that it carries and
 // its bytes in hexadecimal; behind each list, how many bytes are held. Where the session asks for another read, another piece or the close at
 // another place, or leaves other bytes, a line says so. What the records hold stands in docs/PROMISES.md, "Outside facts that are run".
-ghost use Rattle.std.specs.Prelude.{◌≤◌};
+// What can't be written is left out.
+#![tactic(auto)]
+
+ghost use Rattle.std.specs.Prelude.{◌≤◌, length};
 
 use boundary_reply::tell;
 use features::Features;
 use format_flags::{FileMode, SyncFlags};
 use format_number::{put_bytes, u64_at};
 use ids::Ids;
-use libc::{STDIN_FILENO, STDOUT_FILENO};
 use recv_buf::RecvBuf;
 use replay_records::{Record, decode, next};
 use request::Request;
 use session::{Answer, Fault, Pending, Reply, Session, Stepped, Version};
 use session_calls::{Opened, next_entry, open, recv_next, start};
 use session_part::part;
+use std::io;
 
 const DIGITS: [u8; 16] = *b"0123456789ABCDEF";
 
 // ---- printing
 
-fn print(text: &[u8]) {
-    io::write_all(STDOUT_FILENO, text);
+fn print(rt: &impl Print, text: &[u8]) {
+    let _ = rt.write_all(text);
 }
 
-fn print_hex(bytes: &[u8]) {
+fn print_decimal(rt: &impl Print, n: u64) {
+    let _ = print!(rt; "{n}");
+}
+
+fn print_hex(rt: &impl Print, bytes: &[u8]) {
     let mut i = 0;
     while i < bytes.len() {
         let high = (bytes[i] / 16) as usize;
         let low = (bytes[i] % 16) as usize;
         let pair = [DIGITS[high], DIGITS[low]];
-        print(&pair);
+        print(rt, &pair);
         i += 1;
     }
 }
 
 // A line where the session does not do what was recorded.
-fn agree(same: bool) {
+fn agree(rt: &impl Print, same: bool) {
     if !same {
-        print(b"otherwise\n");
+        print(rt, b"otherwise\n");
     }
 }
 
@@ -154,16 +161,16 @@ fn placed(words: &[u8], r: Record, len: u64) -> bool {
 fn names(words: &[u8], r: Record, piece: &[u8], rx: &[u8], lent: &[u8]) -> bool {
     let first = u64_at(words, 0);
     if r.number == 4 {
-        return check::same(between(words, 8, first), piece);
+        return between(words, 8, first) == piece;
     }
     if first != r.a as u64 {
         return false;
     }
     let len = u64_at(words, 8);
     if r.number == 2 {
-        return check::same(between(rx, first, len), piece);
+        return between(rx, first, len) == piece;
     }
-    check::same(between(lent, first, len), piece)
+    between(lent, first, len) == piece
 }
 
 // Whether a reply asks what was recorded.
@@ -214,42 +221,42 @@ fn carried(kind: u64, number: u32) -> usize
     }
 }
 
-fn print_field(n: u64) {
-    print(b",");
-    io::print_decimal(STDOUT_FILENO, n);
+fn print_field(rt: &impl Print, n: u64) {
+    print(rt, b",");
+    print_decimal(rt, n);
 }
 
-fn print_numbers(words: &[u8], count: usize)
+fn print_numbers(rt: &impl Print, words: &[u8], count: usize)
     requires { count ≤ 11 }
 {
     let mut i = 0;
     while i < count {
-        print_field(u64_at(words, 24 + 8 * i));
+        print_field(rt, u64_at(words, 24 + 8 * i));
         i += 1;
     }
 }
 
-fn print_part<'a>(reply: Reply, rx: &'a [u8], msg: &'a [u8]) {
+fn print_part<'a>(rt: &impl Print, reply: Reply, rx: &'a [u8], msg: &'a [u8]) {
     match reply {
-        Reply::Told(a) => print_hex(part(a, rx, msg)),
-        Reply::Read { at: _, len: _ } => agree(false),
-        Reply::WriteRx { at: _, len: _ } => agree(false),
-        Reply::WriteLent { at: _, len: _ } => agree(false),
-        Reply::WriteBytes(_) => agree(false),
-        Reply::Close => agree(false),
+        Reply::Told(a) => print_hex(rt, part(a, rx, msg)),
+        Reply::Read { at: _, len: _ } => agree(rt, false),
+        Reply::WriteRx { at: _, len: _ } => agree(rt, false),
+        Reply::WriteLent { at: _, len: _ } => agree(rt, false),
+        Reply::WriteBytes(_) => agree(rt, false),
+        Reply::Close => agree(rt, false),
     }
 }
 
-fn print_answer<'a>(reply: Reply, rx: &'a [u8], msg: &'a [u8]) {
+fn print_answer<'a>(rt: &impl Print, reply: Reply, rx: &'a [u8], msg: &'a [u8]) {
     let mut words = [0u8; 128];
     let number = tell(reply, &mut words) / 256;
     let kind = u64_at(&words, 0);
-    io::print_decimal(STDOUT_FILENO, number as u64);
-    print_field(kind);
-    print_numbers(&words, carried(kind, number));
-    print(b",");
-    print_part(reply, rx, msg);
-    print(b"\n");
+    print_decimal(rt, number as u64);
+    print_field(rt, kind);
+    print_numbers(rt, &words, carried(kind, number));
+    print(rt, b",");
+    print_part(rt, reply, rx, msg);
+    print(rt, b"\n");
 }
 
 fn held(session: Session) -> usize {
@@ -264,17 +271,18 @@ fn held(session: Session) -> usize {
 }
 
 // The list ends: how many bytes are held, and every byte of the receive buffer.
-fn print_end(held: usize, rx: &[u8], all: &[u8]) {
-    print(b"held,");
-    io::print_decimal(STDOUT_FILENO, held as u64);
-    print(b"\n");
-    agree(check::same(rx, all));
+fn print_end(rt: &impl Print, held: usize, rx: &[u8], all: &[u8]) {
+    print(rt, b"held,");
+    print_decimal(rt, held as u64);
+    print(rt, b"\n");
+    agree(rt, rx == all);
 }
 
 // ---- the records
 
 // What a record says of the reply before it, or of the list at its end. The bytes that came go into the window.
 fn on_reply(
+    rt: &impl Print,
     reply: Reply,
     held: usize,
     rx: &mut [u8],
@@ -286,17 +294,18 @@ fn on_reply(
     let kind = r.kind;
     match kind {
         3 => {
-            agree(asks(reply, r, bytes, rx, lent));
+            agree(rt, asks(reply, r, bytes, rx, lent));
             put_bytes(rx, r.a as usize, bytes)
         }
-        4 | 5 => agree(asks(reply, r, bytes, rx, lent)),
-        6 => print_answer(reply, rx, msg),
-        7 => print_end(held, rx, bytes),
+        4 | 5 => agree(rt, asks(reply, r, bytes, rx, lent)),
+        6 => print_answer(rt, reply, rx, msg),
+        7 => print_end(rt, held, rx, bytes),
         _ => (),
     }
 }
 
 fn follow(
+    rt: &impl Print,
     step: Stepped,
     rx: &mut [u8],
     msg: &mut [u8],
@@ -306,7 +315,7 @@ fn follow(
 ) -> Stepped {
     let session = step.session;
     let reply = step.reply;
-    on_reply(reply, held(session), rx, msg, r, lent, bytes);
+    on_reply(rt, reply, held(session), rx, msg, r, lent, bytes);
     if 5 < r.kind {
         return step;
     }
@@ -326,6 +335,7 @@ fn lent_len(r: Record, n: usize) -> usize {
 
 // The records of a list behind its first, and where they end.
 fn list(
+    rt: &impl Print,
     s: &[u8],
     first: Record,
     rx: &mut [u8],
@@ -342,7 +352,7 @@ fn list(
         let r = next(s, at, lent, spare);
         at = r.end;
         n = lent_len(r, n);
-        step = follow(step, rx, msg, r, front(lent, n), front(spare, r.len));
+        step = follow(rt, step, rx, msg, r, front(lent, n), front(spare, r.len));
         if r.kind == 7 {
             return at;
         }
@@ -352,6 +362,7 @@ fn list(
 
 // A list on both buffers, filled with one byte, and where it ends.
 fn on_list(
+    rt: &impl Print,
     s: &[u8],
     first: Record,
     rx: &mut [u8],
@@ -370,25 +381,54 @@ fn on_list(
     if msg.len() < n {
         return first.end;
     }
-    list(s, first, &mut rx[..n], &mut msg[..n], lent, spare)
+    list(rt, s, first, &mut rx[..n], &mut msg[..n], lent, spare)
 }
 
-fn replay(s: &[u8], rx: &mut [u8], msg: &mut [u8], lent: &mut [u8], spare: &mut [u8]) {
+fn replay(
+    rt: &impl Print,
+    s: &[u8],
+    rx: &mut [u8],
+    msg: &mut [u8],
+    lent: &mut [u8],
+    spare: &mut [u8],
+) {
     let mut at = 0;
     while at < s.len() {
         let first = next(s, at, lent, spare);
-        at = on_list(s, first, rx, msg, lent, spare);
+        at = on_list(rt, s, first, rx, msg, lent, spare);
     }
 }
 
-fn main() {
+// Reads until buf is full, the input ends or a read fails: how many bytes came.
+fn read_full(input: &mut impl io::Read, buf: &mut [u8]) -> usize
+    ensures { result ≤ length buf.new }
+{
+    let mut done = 0;
+    while done < buf.len() {
+        let count = input.read(&mut buf[done..]).unwrap_or(0);
+        if count == 0 {
+            return done;
+        }
+        done += count;
+    }
+    done
+}
+
+fn main(rt: HostRuntime) {
     let mut text = [0u8; 131072];
     let mut records = [0u8; 65536];
     let mut rx = [0u8; 65544];
     let mut msg = [0u8; 65544];
     let mut lent = [0u8; 65544];
     let mut spare = [0u8; 65544];
-    let n = io::read_full(STDIN_FILENO, &mut text);
+    let n = read_full(&mut rt.stdin(), &mut text);
     let count = decode(&text[..n], &mut records);
-    replay(&records[..count], &mut rx, &mut msg, &mut lent, &mut spare);
+    replay(
+        &rt,
+        &records[..count],
+        &mut rx,
+        &mut msg,
+        &mut lent,
+        &mut spare,
+    );
 }

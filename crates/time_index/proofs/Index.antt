@@ -122,7 +122,7 @@ run k n e [] [] h g = record { kept = k; numbers = refl }
 run k n e [] (a ∷ rest) h g = absurd h
 run k n e (t ∷ ts) [] h g = absurd h
 run {before} {s} {area} {held} k n e (t ∷ ts) (a ∷ rest) (long, (bytes, (heard-it, others))) (known, knowns) =
-    go (run step.kept n step.same ts rest others knowns)
+    go (run {s = (added s area (offered a)).slots} {area = (added s area (offered a)).area} {held = taken n held (offered a)} step.kept n step.same ts rest others knowns)
   where
     offer : offered_by t.told t.reply t.rx ≡ offered a
     offer = heard-offers t.told t.reply t.rx t.msg a heard-it known

@@ -278,7 +278,14 @@ module _ (s : Seen) (t : Sums) (rec : List ℕ) (h : Holds s t rec) where
 
 every_moment : (s : Seen) (t : Sums) (rec : List ℕ) (es : List Event) → Holds s t rec → AllWide es → EveryMoment total_functions none s t rec es
 every_moment s t rec [] h v = shows s t rec h
-every_moment s t rec (e ∷ es) h (w, v) = let (a, k) = event s t rec h e w in (shows s t rec h, (a, every_moment _ _ _ es k v))
+every_moment s t rec (e ∷ es) h (w, v) = let (a, k) = event s t rec h e w in (
+  shows s t rec h,
+  (
+    a,
+    every_moment
+        (follow (refused_by none s t e) s e (heard_of (total_by rec e))) (sums_after (refused_by none s t e) t (adds s t e.act)) (total_by rec e).rec es k v,
+  ),
+)
 
 -- ---- from the opening on
 

@@ -28,7 +28,7 @@ use Rattle.boundary.specs.Told.{reply_number, out_size}
 use Rattle.boundary_misuse.specs.Misuse.{HostReport, has_read, wrote, fault, report, WideAct, awaited, outside}
 use Rattle.boundary_misuse.proofs.Loaded.{Widths, loaded-narrow}
 use Rattle.boundary_misuse.proofs.Table.{Comes, after, reported, reports}
-use Rattle.boundary_misuse.proofs.Unchanged.{asks, asked_of}
+use Rattle.boundary_misuse.proofs.Unchanged.{put_back_of, asks, asked_of}
 use Rattle.totals.specs.Crossing.{refuses}
 use Rattle.totals.proofs.Sizes.{unrefused}
 use Rattle.totals_taken.specs.Taken.{awaits_read, awaits_write, takes_read, takes_wrote}
@@ -142,7 +142,7 @@ module _ (rec rx msg lent out : List ℕ) where
       → takes_read (loaded rec) (length rx) (length msg) (length lent) k ≡ not (refuses (cross_read rec rx msg lent k out).number)
   unfolding takes_read cross_read
   taken-read k b x f l o =
-      on-record b o (λ (y : Option Session). takes_read y (length rx) (length msg) (length lent) k) _ refl
+      on-record b o (λ (y : Option Session). takes_read y (length rx) (length msg) (length lent) k) (put_back_of rec lent out (report (has_read k))) refl
       (λ s n. pick-cases (λ (c : Crossed). takes_read (some s) (length rx) (length msg) (length lent) k ≡ not (refuses c.number))
       (stays (st s rx msg) (length lent) k)
       (λ e. let (i, j) = (and-eq-true_iff (eqb (report_refusal s (length rx) (length msg) (length lent)) 0) (stays_at s.pending s k)).0 e in
@@ -153,5 +153,5 @@ module _ (rec rx msg lent out : List ℕ) where
       → takes_wrote (loaded rec) (length rx) (length msg) (length lent) ≡ not (refuses (cross_wrote rec rx msg lent out).number)
   unfolding takes_wrote cross_wrote
   taken-wrote b x f l o =
-      on-record b o (λ (y : Option Session). takes_wrote y (length rx) (length msg) (length lent)) _ refl
+      on-record b o (λ (y : Option Session). takes_wrote y (length rx) (length msg) (length lent)) (put_back_of rec lent out (report wrote)) refl
       (λ s n. rw (wrote-fits s.buf.tail (s.capacity - s.buf.tail) s.pending) (of_session x f l wrote tt s n))

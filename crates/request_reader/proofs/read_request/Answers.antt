@@ -9,16 +9,14 @@ use Rattle.protocol.specs.Records.{id_at}
 use Rattle.protocol.proofs.Requests.{more-short}
 use Rattle.ids.specs.Ids.{table_of, dialect_of}
 use Rattle.request_reader.proofs.Steps.{id-bytes, on_none, on_some}
-use Rattle.request_reader.proofs.read_request.Goals.{After-from_bytes, Start}
+use Rattle.request_reader.proofs.read_request.Goals.{After-from_bytes}
 use Rattle.request_reader.proofs.read_request.Goals as goal
 
 -- with a header there, the id that was found is its id
-abbrev start : After-from_bytes → Start
-start c = c.before.before.before.before.before.before.before
 
-found : (c : After-from_bytes) → (let a = (start c).args in (8 ≤ length a.s.now) × (named (dialect_of a.ids) (id_at a.s.now) ≡ found_id c.from_bytes.result))
+found : (c : After-from_bytes) → (let a = c.args in (8 ≤ length a.s.now) × (named (dialect_of a.ids) (id_at a.s.now) ≡ found_id c.from_bytes.result))
 found c =
-    let a = (start c).args in
+    let a = c.args in
     let long : 8 ≤ length a.s.now = c.if-s-lt8.false in
     (long, sym (c.from_bytes.ensures ∙ ap (named (dialect_of a.ids)) (id-bytes a.s.now (omega arith))))
 
@@ -30,13 +28,13 @@ read_known-requires c = (found (goal.at.read_known-requires c).After-from_bytes)
 
 pub returns-in-Nothing : goal.returns-in-Nothing
 returns-in-Nothing c =
-    let a = (start (goal.at.returns-in-Nothing c).After-from_bytes).args in
+    let a = c.args in
     let (long, id) = found (goal.at.returns-in-Nothing c).After-from_bytes in
     sym (on_none (table_of a.ids) a.s.now long (id ∙ ap found_id c.in-Nothing.is))
 
 pub returns-in-Id : goal.returns-in-Id
 returns-in-Id c =
     let k = c in
-    let a = (start (goal.at.returns-in-Id c).After-from_bytes).args in
+    let a = k.args in
     let (long, id) = found (goal.at.returns-in-Id c).After-from_bytes in
-    c.read_Known.ensures ∙ sym (on_some (table_of a.ids) a.s.now long (id_of k.in-Id.id) (id ∙ ap found_id k.in-Id.is))
+    c.read_known.ensures ∙ sym (on_some (table_of a.ids) a.s.now long (id_of k.in-Id.id) (id ∙ ap found_id k.in-Id.is))

@@ -1,6 +1,5 @@
 -- `request_reader::read_text` meets its contract.
-use Prim.Native.Nat.{ℕ, ◌-◌}
-use mathlib.Core.List.{List}
+use Prim.Native.Nat.{◌-◌}
 use mathlib.Core.Option.{none, some}
 use mathlib.Core.Path.{◌≡◌, sym, ap, ◌∙◌}
 use lib.ListN.{take, drop}
@@ -9,30 +8,27 @@ use Rattle.protocol.specs.Ids.{published}
 use Rattle.protocol.specs.Requests.{at_comma, last_comma}
 use Rattle.request_reader.specs.Meaning.{place_of}
 use Rattle.request_reader.proofs.Text.{comma-within, text-sent, text-size, text_path}
-use Rattle.request_reader.proofs.read_text.Goals.{In-At-2, Start}
+use Rattle.request_reader.proofs.read_text.Goals.{In-At}
 use Rattle.request_reader.proofs.read_text.Goals as goal
 
-abbrev text : Start → List ℕ
-text c = take (c.args.size - 8) (drop 8 c.args.s.now)
-
-comma : (c : In-At-2) → last_comma (text c.before.before.before.before.before) ≡ some c.in-At.k
+comma : (c : In-At) → last_comma ((take (c.args.size - 8) (drop 8 c.args.s.now))) ≡ some c.in-At.k
 comma c = sym c.last_comma.ensures ∙ ap place_of c.in-At.is
 
 pub mode_after-requires : goal.mode_after-requires
 mode_after-requires c =
     let l = c in
-    comma-within (text (goal.at.mode_after-requires c).Start) l.in-At.k (comma (goal.at.mode_after-requires c).In-At-2)
+    comma-within ((take (l.args.size - 8) (drop 8 l.args.s.now))) l.in-At.k (comma (goal.at.mode_after-requires c).In-At)
 
 pub returns-in-Nowhere : goal.returns-in-Nowhere
 returns-in-Nowhere c =
     let o = c in
-    sym (ap (at_comma published (text (goal.at.returns-in-Nowhere c).Start)) (sym c.last_comma.ensures ∙ ap place_of c.in-Nowhere.is))
+    sym (ap (at_comma published ((take (o.args.size - 8) (drop 8 o.args.s.now)))) (sym c.last_comma.ensures ∙ ap place_of c.in-Nowhere.is))
 
 pub returns-in-Invalid : goal.returns-in-Invalid
 returns-in-Invalid c =
     let l = c in
     let mode = sym c.mode_after.ensures ∙ ap parsed c.in-Invalid.is in
-    sym (text-sent (text (goal.at.returns-in-Invalid c).Start) l.in-At.k none (comma (goal.at.returns-in-Invalid c).In-At-2) mode)
+    sym (text-sent ((take (l.args.size - 8) (drop 8 l.args.s.now))) l.in-At.k none (comma (goal.at.returns-in-Invalid c).In-At) mode)
 
 pub returns-in-Number : goal.returns-in-Number
 returns-in-Number c =
@@ -41,6 +37,6 @@ returns-in-Number c =
     let o = c in
     let a = o.args in
     let all = text-size a.s.now a.size o.requires.0 o.requires.1 in
-    let path = text_path a.s.now a.size o.requires.0 o.requires.1 k (comma-within (text (goal.at.returns-in-Number c).Start) k (comma (goal.at.returns-in-Number c).In-At-2)) in
+    let path = text_path a.s.now a.size o.requires.0 o.requires.1 k (comma-within ((take (o.args.size - 8) (drop 8 o.args.s.now))) k (comma (goal.at.returns-in-Number c).In-At)) in
     let mode = sym c.mode_after.ensures ∙ ap parsed c.in-Number.is in
-    sym (rw (path, all) at (text-sent (text (goal.at.returns-in-Number c).Start) k (some c.in-Number.mode) (comma (goal.at.returns-in-Number c).In-At-2) mode))
+    sym (rw (path, all) at (text-sent ((take (o.args.size - 8) (drop 8 o.args.s.now))) k (some c.in-Number.mode) (comma (goal.at.returns-in-Number c).In-At) mode))

@@ -1,7 +1,0 @@
--- `fast_replies::stat_version` meets its contract. Assumes nothing.
-use borrow.Author.Tests.{eq-eqb, ne_eqb}
-use Rattle.fast_replies.proofs.stat_version.Statement.{statement}
-use Rattle.fast_replies.proofs.stat_version.Tie as tie
-
-pub stat-version-spec : {M : Type 1} → statement M
-stat-version-spec = tie.close (tie.spec (λ c. simp (eq-eqb _ _ c.if1.true)) (λ c. simp (ne_eqb _ _ c.if1.false)))

@@ -1,0 +1,7 @@
+-- `listing::first` meets its contract.
+use mathlib.Core.Path.{ap, ◌∙◌}
+use Rattle.listing.specs.Steps.{ended}
+use Rattle.listing.proofs.first.Goals as goal
+
+pub returns : goal.returns
+returns c = c.settle.ensures ∙ ap ended c.begin-step.ensures

@@ -1,0 +1,15 @@
+-- `listing_lines::put_heading` meets its contract.
+use native.Mathlib.Omega.{arith}
+use Rattle.listing_lines.specs.Lines.{heading, heading_room}
+use Rattle.listing_lines.proofs.Laws.{laid_in_lem, laid_out}
+use Rattle.listing_lines.proofs.put_heading.Goals as goal
+
+pub returns-then-out-at : goal.returns-then-out-at
+returns-then-out-at c = laid_out heading_room _ _ heading (omega arith)
+
+pub returns-then-free-lt21 : goal.returns-then-free-lt21
+returns-then-free-lt21 c = laid_out heading_room _ _ heading (omega arith)
+
+pub returns : goal.returns
+unfolding heading
+returns c = laid_in_lem heading_room (omega arith) c.put_text.ensures

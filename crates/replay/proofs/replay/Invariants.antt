@@ -1,0 +1,6 @@
+-- `replay::replay`: each list takes at least a byte.
+use Rattle.std.proofs.Common.{length, ◌-◌}
+use Rattle.replay.proofs.replay.Given as goal
+
+abbrev pub decreases-loop-at : goal.decreases-loop-at
+decreases-loop-at g l = length l.s - l.at
