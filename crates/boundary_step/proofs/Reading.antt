@@ -5,7 +5,7 @@ use mathlib.Core.Option.{Option, none, some}
 use mathlib.Core.Path.{◌≡◌, refl, sym, ap, ◌∙◌}
 use Prim.Native.Nat.{ℕ, ◌-◌, ◌≤◌, ◌<◌}
 use native.Mathlib.Omega.{arith}
-use borrow.Author.Tests.{le-ltb}
+use borrow.Author.Tests.{lt-ltb, le-ltb}
 use lib.Dec.{ltb}
 use lib.ListN.{length}
 use Rattle.protocol.specs.Bytes.{pick, put, bytes_of}
@@ -63,4 +63,4 @@ module _ (rec rx msg lent out : List ℕ) (k t : ℕ) (e : t ≡ short_in (loade
 -- a slice too short for a reply
 pub read-away : (rec rx msg lent out : List ℕ) (k : ℕ) → length out < out_size → slow_read rec rx msg lent k out ≡ cross_read rec rx msg lent k out
 unfolding slow_read cross_read
-read-away rec rx msg lent out k h = sym (cross_short rec rx msg out _ h) ∙ cross_short rec rx msg out _ h
+read-away rec rx msg lent out k h = rw (lt-ltb (length out) out_size h)
