@@ -10,9 +10,6 @@ returns-then-out-lt-REPLY c = let a = c.args in cross_short a.moment a.out.now (
 
 pub returns : goal.returns
 returns c =
-    let p = c in
-    let m = c in
-    let y = c in
-    let a = y.args in
-    let d = m.month_of-d.result in
-    cross_long a.moment a.out.now (date d.year d.month d.day) (omega arith) (m.month_of-d.ensures ∙ y.year_of-y.ensures.0) p.put_five.ensures
+    let a = c.args in
+    let d = c.month_of-d.result in
+    cross_long a.moment a.out.now (date d.year d.month d.day) (omega arith) (c.month_of-d.ensures ∙ c.year_of-y.ensures.0) c.put_five.ensures

@@ -9,17 +9,14 @@ loop-month-init c = (omega arith, (omega arith, refl))
 
 pub returns-then-day-length : goal.returns-then-day-length
 returns-then-day-length c =
-    let l = c in
     let e = c.month_length-length.ensures in
-    sym (month-in l.args.year l.loop-month.month l.loop-month.day (omega arith) (omega arith)) ∙ l.loop-month.invariant.1.1
+    sym (month-in c.args.year c.loop-month.month c.loop-month.day (omega arith) (omega arith)) ∙ c.loop-month.invariant.1.1
 
 pub loop-month-preserved : goal.loop-month-preserved
 loop-month-preserved c =
-    let l = c in
     let e = c.month_length-length.ensures in
-    (omega arith, (omega arith, rw e (sym (month-on l.args.year l.loop-month.month l.loop-month.day (omega arith) (omega arith)) ∙ l.loop-month.invariant.1.1)))
+    (omega arith, (omega arith, rw e (sym (month-on c.args.year c.loop-month.month c.loop-month.day (omega arith) (omega arith)) ∙ c.loop-month.invariant.1.1)))
 
 pub returns : goal.returns
 returns c =
-    let l = c in
-    sym (month-last l.args.year l.loop-month.month l.loop-month.day (omega arith)) ∙ l.loop-month.invariant.1.1
+    sym (month-last c.args.year c.loop-month.month c.loop-month.day (omega arith)) ∙ c.loop-month.invariant.1.1

@@ -14,14 +14,9 @@ returns-then-out-lt-FIVE c = sym (put-out _ _ (five _ _ _ _ _) (omega arith))
 -- each of them behind those before it
 pub returns : goal.returns
 returns c =
-    let p5 = c in
-    let p4 = c in
-    let p3 = c in
-    let p2 = c in
-    let p1 = c in
-    let a = p1.args in
+    let a = c.args in
     let out = a.out.now in
-    let two = put-behind out 8 (bytes_of 8 a.a) a.b p1.put_u64.ensures p2.put_u64-2.ensures (omega arith) (omega arith) in
-    let three = put-behind out 16 (bytes_of 8 a.a ++ bytes_of 8 a.b) a.c two p3.put_u64-3.ensures (omega arith) (omega arith) in
-    let four = put-behind out 24 (bytes_of 8 a.a ++ bytes_of 8 a.b ++ bytes_of 8 a.c) a.d three p4.put_u64-4.ensures (omega arith) (omega arith) in
-    put-behind out 32 (bytes_of 8 a.a ++ bytes_of 8 a.b ++ bytes_of 8 a.c ++ bytes_of 8 a.d) a.e four p5.put_u64-5.ensures (omega arith) (omega arith)
+    let two = put-behind out 8 (bytes_of 8 a.a) a.b c.put_u64.ensures c.put_u64-2.ensures (omega arith) (omega arith) in
+    let three = put-behind out 16 (bytes_of 8 a.a ++ bytes_of 8 a.b) a.c two c.put_u64-3.ensures (omega arith) (omega arith) in
+    let four = put-behind out 24 (bytes_of 8 a.a ++ bytes_of 8 a.b ++ bytes_of 8 a.c) a.d three c.put_u64-4.ensures (omega arith) (omega arith) in
+    put-behind out 32 (bytes_of 8 a.a ++ bytes_of 8 a.b ++ bytes_of 8 a.c ++ bytes_of 8 a.d) a.e four c.put_u64-5.ensures (omega arith) (omega arith)

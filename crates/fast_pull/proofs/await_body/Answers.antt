@@ -86,11 +86,10 @@ overflow_sub-n c = omega (arith, (begins (goal.at.overflow_sub-n c).Else-whole-e
 
 pub overflow_add-until : goal.overflow_add-until
 overflow_add-until c =
-    let s = c in
-    let a = s.args in
+    let a = c.args in
     let (b, n) = begins (goal.at.overflow_add-until c).Else-whole-eq0 in
     let w = short-of (dialect_held a.rec.now) (came_in a.rec.now a.rx.now a.count) (length a.rx.now) b in
-    omega (arith, w.fits, n, (end (goal.at.overflow_add-until c).Else-end-eq0).1, s.requires.1, c.number-head.ensures)
+    omega (arith, w.fits, n, (end (goal.at.overflow_add-until c).Else-end-eq0).1, c.requires.1, c.number-head.ensures)
 
 pub returns-then-end-rx : goal.returns-then-end-rx
 unfolding reply_bytes

@@ -21,9 +21,8 @@ held : (c : After-entry_len-n)
     let head = c.number-head.result in
     take (c.number-tail.result - head) (drop head a.rx.now) ≡ held_in a.rec.now a.rx.now
 held c =
-    let s = c in
-    let rec = s.args.rec.now in
-    held-part s.args.rx.now (number_in rec 2) (number_in rec 3) s.requires.1 s.requires.2 _ _ c.number-head.ensures c.number-tail.ensures
+    let rec = c.args.rec.now in
+    held-part c.args.rx.now (number_in rec 2) (number_in rec 3) c.requires.1 c.requires.2 _ _ c.number-head.ensures c.number-tail.ensures
 
 length-is : (c : After-entry_len-n)
     → let a = c.args in

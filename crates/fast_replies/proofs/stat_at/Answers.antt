@@ -22,10 +22,9 @@ held : (c : After-is_stat)
     let head = c.number-head.result in
     take (c.number-tail.result + a.count - head) (drop head a.rx.now) ≡ came_in a.rec.now a.rx.now a.count
 held c =
-    let s = c in
-    let a = s.args in
+    let a = c.args in
     let e = c.number-tail.ensures in
-    held-part a.rx.now (number_in a.rec.now 2) (number_in a.rec.now 3 + a.count) (omega (arith, s.requires)) (omega (arith, s.requires)) _ _ c.number-head.ensures (omega arith)
+    held-part a.rx.now (number_in a.rec.now 2) (number_in a.rec.now 3 + a.count) (omega (arith, c.requires)) (omega (arith, c.requires)) _ _ c.number-head.ensures (omega arith)
 
 -- the tests on the way to the reply
 came : (c : After-is_stat)

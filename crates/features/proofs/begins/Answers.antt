@@ -13,27 +13,23 @@ loop-i-init c = (search rules, search rules, search rules, rw sub_self)
 
 pub returns-then-i-to : goal.returns-then-i-to
 returns-then-i-to c =
-    let l = c in
-    let a = l.args in
-    sym (l.loop-i.invariant.3 ∙ starts-short a.s.now l.loop-i.i a.to a.text.now (l.loop-i.i - a.from) c.if-i-to.true c.loop-i-test.true)
+    let a = c.args in
+    sym (c.loop-i.invariant.3 ∙ starts-short a.s.now c.loop-i.i a.to a.text.now (c.loop-i.i - a.from) c.if-i-to.true c.loop-i-test.true)
 
 pub returns-then-s-i : goal.returns-then-s-i
 returns-then-s-i c =
-    let l = c in
-    let a = l.args in
-    let step = starts-step a.s.now l.loop-i.i a.to a.text.now (l.loop-i.i - a.from) (omega arith) (omega arith) (omega arith) in
-    sym (l.loop-i.invariant.3 ∙ step ∙ rw (ne_eqb _ _ c.if-s-i.true))
+    let a = c.args in
+    let step = starts-step a.s.now c.loop-i.i a.to a.text.now (c.loop-i.i - a.from) (omega arith) (omega arith) (omega arith) in
+    sym (c.loop-i.invariant.3 ∙ step ∙ rw (ne_eqb _ _ c.if-s-i.true))
 
 pub loop-i-preserved : goal.loop-i-preserved
 loop-i-preserved c =
-    let l = c in
-    let a = l.args in
-    let step = starts-step a.s.now l.loop-i.i a.to a.text.now (l.loop-i.i - a.from) (omega arith) (omega arith) (omega arith) in
-    let e : l.loop-i.i - a.from + 1 ≡ l.loop-i.i + 1 - a.from = omega arith in
-    (search rules, search rules, search rules, rw (← e) (l.loop-i.invariant.3 ∙ step ∙ rw (eq-eqb _ _ c.if-s-i.false)))
+    let a = c.args in
+    let step = starts-step a.s.now c.loop-i.i a.to a.text.now (c.loop-i.i - a.from) (omega arith) (omega arith) (omega arith) in
+    let e : c.loop-i.i - a.from + 1 ≡ c.loop-i.i + 1 - a.from = omega arith in
+    (search rules, search rules, search rules, rw (← e) (c.loop-i.invariant.3 ∙ step ∙ rw (eq-eqb _ _ c.if-s-i.false)))
 
 pub returns : goal.returns
 returns c =
-    let l = c in
-    let a = l.args in
-    sym (l.loop-i.invariant.3 ∙ starts-end a.s.now l.loop-i.i a.to a.text.now (l.loop-i.i - a.from) (omega arith))
+    let a = c.args in
+    sym (c.loop-i.invariant.3 ∙ starts-end a.s.now c.loop-i.i a.to a.text.now (c.loop-i.i - a.from) (omega arith))

@@ -11,17 +11,14 @@ loop-start-init c =
 
 pub returns-then-part_is : goal.returns-then-part_is
 returns-then-part_is c =
-    let l = c in
-    let next = pieces-within _ l.loop-start.start c.loop-start-test.true ∙ c.piece_end-end.ensures.2 in
-    sym (l.loop-start.invariant ∙ rw (next, ← c.part_is.ensures, c.if-part_is.true))
+    let next = pieces-within _ c.loop-start.start c.loop-start-test.true ∙ c.piece_end-end.ensures.2 in
+    sym (c.loop-start.invariant ∙ rw (next, ← c.part_is.ensures, c.if-part_is.true))
 
 pub loop-start-preserved : goal.loop-start-preserved
 loop-start-preserved c =
-    let l = c in
-    let next = pieces-within _ l.loop-start.start c.loop-start-test.true ∙ c.piece_end-end.ensures.2 in
-    l.loop-start.invariant ∙ rw (next, ← c.part_is.ensures, c.if-part_is.false)
+    let next = pieces-within _ c.loop-start.start c.loop-start-test.true ∙ c.piece_end-end.ensures.2 in
+    c.loop-start.invariant ∙ rw (next, ← c.part_is.ensures, c.if-part_is.false)
 
 pub returns : goal.returns
 returns c =
-    let l = c in
-    sym (l.loop-start.invariant ∙ rw (pieces-past _ l.loop-start.start c.loop-start-test.false))
+    sym (c.loop-start.invariant ∙ rw (pieces-past _ c.loop-start.start c.loop-start-test.false))

@@ -13,19 +13,16 @@ loop-end-init c = (search rules, refl)
 
 pub returns-then-part_is : goal.returns-then-part_is
 returns-then-part_is c =
-    let l = c in
     let here = sym c.part_is.ensures ∙ c.if-part_is.true in
-    rw (l.loop-end.invariant.1 ∙ after-here marker _ (l.loop-end.end - 9) l.loop-end.end (omega arith) (omega arith) (omega arith) here) (sym (pieces-within _ l.loop-end.end (omega arith)))
+    rw (c.loop-end.invariant.1 ∙ after-here marker _ (c.loop-end.end - 9) c.loop-end.end (omega arith) (omega arith) (omega arith) here) (sym (pieces-within _ c.loop-end.end (omega arith)))
 
 pub loop-end-preserved : goal.loop-end-preserved
 loop-end-preserved c =
-    let l = c in
     let other = sym c.part_is.ensures ∙ c.if-part_is.false in
-    let e : l.loop-end.end - 9 + 1 ≡ l.loop-end.end + 1 - 9 = omega arith in
-    (search rules, l.loop-end.invariant.1 ∙ rw e at (after_next marker _ (l.loop-end.end - 9) l.loop-end.end (omega arith) (omega arith) (omega arith) other))
+    let e : c.loop-end.end - 9 + 1 ≡ c.loop-end.end + 1 - 9 = omega arith in
+    (search rules, c.loop-end.invariant.1 ∙ rw e at (after_next marker _ (c.loop-end.end - 9) c.loop-end.end (omega arith) (omega arith) (omega arith) other))
 
 pub returns : goal.returns
 returns c =
-    let l = c in
-    let banner = l.args.banner.now in
-    rw (l.loop-end.invariant.1 ∙ after-end marker banner (l.loop-end.end - 9) (omega arith) (omega arith)) (sym (pieces-past banner l.loop-end.end (omega arith)))
+    let banner = c.args.banner.now in
+    rw (c.loop-end.invariant.1 ∙ after-end marker banner (c.loop-end.end - 9) (omega arith) (omega arith)) (sym (pieces-past banner c.loop-end.end (omega arith)))

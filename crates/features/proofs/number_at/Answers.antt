@@ -76,20 +76,18 @@ slice_bounds-part_is-end c = let r = ends-rise c.loop-n.n (omega arith) (omega a
 
 pub returns-then-part_is : goal.returns-then-part_is
 returns-then-part_is c =
-    let l = c in
-    let hit = l.loop-n.invariant.3 l.loop-n.n (omega arith) c.loop-n-test.true in
+    let hit = c.loop-n.invariant.3 c.loop-n.n (omega arith) c.loop-n-test.true in
     (omega arith, hit (sym c.part_is.ensures ∙ c.if-part_is.true))
 
 pub loop-n-preserved : goal.loop-n-preserved
 loop-n-preserved c =
-    let l = c in
-    let a = l.args in
+    let a = c.args in
     let other = sym c.part_is.ensures ∙ c.if-part_is.false in (
       search rules,
       search rules,
       search rules,
-      λ m h k. l.loop-n.invariant.3 m (omega arith) k,
-      λ f. l.loop-n.invariant.4 (missed (slice l.if-begins.rest a.to a.s.now) l.loop-n.n l.if-begins.last other f),
+      λ m h k. c.loop-n.invariant.3 m (omega arith) k,
+      λ f. c.loop-n.invariant.4 (missed (slice c.if-begins.rest a.to a.s.now) c.loop-n.n c.if-begins.last other f),
     )
 
 pub returns : goal.returns

@@ -11,20 +11,17 @@ loop-i-init c = (search rules, search rules, rw slice_empty)
 
 pub returns-then-is_separator : goal.returns-then-is_separator
 returns-then-is_separator c =
-    let l = c in
-    let s = l.args.s.now in
-    let cut = piece_cut s (slice l.args.from l.loop-i.i s) l.loop-i.i c.loop-i-test.true in
-    (search rules, search rules, l.loop-i.invariant.2 ∙ cut (sym c.is_separator.ensures ∙ c.if-is_separator.true))
+    let s = c.args.s.now in
+    let cut = piece_cut s (slice c.args.from c.loop-i.i s) c.loop-i.i c.loop-i-test.true in
+    (search rules, search rules, c.loop-i.invariant.2 ∙ cut (sym c.is_separator.ensures ∙ c.if-is_separator.true))
 
 pub loop-i-preserved : goal.loop-i-preserved
 loop-i-preserved c =
-    let l = c in
-    let s = l.args.s.now in
+    let s = c.args.s.now in
     let other = sym c.is_separator.ensures ∙ c.if-is_separator.false in
-    (search rules, search rules, l.loop-i.invariant.2 ∙ split-on s l.loop-i.i c.loop-i-test.true l.args.from l.loop-i.invariant.0 other)
+    (search rules, search rules, c.loop-i.invariant.2 ∙ split-on s c.loop-i.i c.loop-i-test.true c.args.from c.loop-i.invariant.0 other)
 
 pub returns : goal.returns
 returns c =
-    let l = c in
-    let s = l.args.s.now in
-    (search rules, search rules, l.loop-i.invariant.2 ∙ piece-last s (slice l.args.from l.loop-i.i s) l.loop-i.i c.loop-i-test.false)
+    let s = c.args.s.now in
+    (search rules, search rules, c.loop-i.invariant.2 ∙ piece-last s (slice c.args.from c.loop-i.i s) c.loop-i.i c.loop-i-test.false)

@@ -13,19 +13,18 @@ use Rattle.format_record.proofs.stat_v2_body_at.Goals as goal
 pub returns : goal.returns
 unfolding stat2_body
 returns c =
-    let c0 = c in
-    let a = c0.args in
+    let a = c.args in
     let s = a.s.now in
     rw (
       c.u32_at.ensures ∙ whole_in 4 0 (u32_at 0) s a.off (omega arith),
-      c.u64_at.ensures ∙ u64_field 68 s a.off c0.requires 4 (lit≤ tt),
-      c.u64_at-2.ensures ∙ u64_field 68 s a.off c0.requires 12 (lit≤ tt),
-      c.u32_at-2.ensures ∙ u32_field 68 s a.off c0.requires 20 (lit≤ tt),
-      c.u32_at-3.ensures ∙ u32_field 68 s a.off c0.requires 24 (lit≤ tt),
-      c.u32_at-4.ensures ∙ u32_field 68 s a.off c0.requires 28 (lit≤ tt),
-      c.u32_at-5.ensures ∙ u32_field 68 s a.off c0.requires 32 (lit≤ tt),
-      c.u64_at-3.ensures ∙ u64_field 68 s a.off c0.requires 36 (lit≤ tt),
-      to_z-of_z {w = w64} (sfits_of c.i64_at.type_inv) ∙ c.i64_at.ensures ∙ i64_field 68 s a.off c0.requires 44 (lit≤ tt),
-      to_z-of_z {w = w64} (sfits_of c.i64_at-2.type_inv) ∙ c.i64_at-2.ensures ∙ i64_field 68 s a.off c0.requires 52 (lit≤ tt),
-      to_z-of_z {w = w64} (sfits_of c.i64_at-3.type_inv) ∙ c.i64_at-3.ensures ∙ i64_field 68 s a.off c0.requires 60 (lit≤ tt),
+      c.u64_at.ensures ∙ u64_field 68 s a.off c.requires 4 (lit≤ tt),
+      c.u64_at-2.ensures ∙ u64_field 68 s a.off c.requires 12 (lit≤ tt),
+      c.u32_at-2.ensures ∙ u32_field 68 s a.off c.requires 20 (lit≤ tt),
+      c.u32_at-3.ensures ∙ u32_field 68 s a.off c.requires 24 (lit≤ tt),
+      c.u32_at-4.ensures ∙ u32_field 68 s a.off c.requires 28 (lit≤ tt),
+      c.u32_at-5.ensures ∙ u32_field 68 s a.off c.requires 32 (lit≤ tt),
+      c.u64_at-3.ensures ∙ u64_field 68 s a.off c.requires 36 (lit≤ tt),
+      to_z-of_z {w = w64} (sfits_of c.i64_at.type_inv) ∙ c.i64_at.ensures ∙ i64_field 68 s a.off c.requires 44 (lit≤ tt),
+      to_z-of_z {w = w64} (sfits_of c.i64_at-2.type_inv) ∙ c.i64_at-2.ensures ∙ i64_field 68 s a.off c.requires 52 (lit≤ tt),
+      to_z-of_z {w = w64} (sfits_of c.i64_at-3.type_inv) ∙ c.i64_at-3.ensures ∙ i64_field 68 s a.off c.requires 60 (lit≤ tt),
     )

@@ -16,8 +16,7 @@ returns-then-at-eq0 c =
 
 pub returns : goal.returns
 returns c =
-    let s = c in
-    let a = s.args in
-    let g = s.begin-at in
+    let a = c.args in
+    let g = c.begin-at in
     let m : List ℕ = word a.id ++ word (length a.path.now) ++ a.path.now in
-    let w = v2_puts a.out.now m g.new.out g.result a.rest g.ensures.result_after a.id a.first s.if-at-eq0.false in record { result_after = cc; upper_bound = begun-within a.out.now _ a.rest _ (g.result + 8) w }
+    let w = v2_puts a.out.now m g.new.out g.result a.rest g.ensures.result_after a.id a.first c.if-at-eq0.false in record { result_after = cc; upper_bound = begun-within a.out.now _ a.rest _ (g.result + 8) w }

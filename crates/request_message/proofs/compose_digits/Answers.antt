@@ -24,14 +24,13 @@ returns-then-at-eq0 c =
 
 pub returns : goal.returns
 returns c =
-    let s = c in
-    let a = s.args in
-    let g = s.begin-at in
+    let a = c.args in
+    let g = c.begin-at in
     let d = a.digits.now in
     let n : ℕ = length a.path.now + (1 + length d) in
     let m : List ℕ = word a.id ++ word n ++ a.path.now in
     let k : g.result + length (joined (comma ∷ d ∷ [])) ≡ g.result + (1 + length d) = omega (arith, room d) in
     cc (
-    go_on a.out.now m (1 + length d) g.new.out g.result g.ensures.result_after (comma ∷ d ∷ []) 0 (room d) s.if-at-eq0.false
+    go_on a.out.now m (1 + length d) g.new.out g.result g.ensures.result_after (comma ∷ d ∷ []) 0 (room d) c.if-at-eq0.false
     ∙ begun-whole a.out.now _ _ (ap (λ l. m ++ (comma ++ l)) (append-nil d))
     )

@@ -33,7 +33,6 @@ compose_digits-requires c = let d = formatted (goal.at.compose_digits-requires c
 
 pub returns : goal.returns
 returns c =
-    let f = c in
-    let a = f.args in
+    let a = c.args in
     c.compose_digits.ensures
     ∙ ap (placed a.out.now 0) (send-bytes a.id a.path.now a.mode.0 _ (formatted (goal.at.returns c).After-format_u32-n).1.1)

@@ -18,11 +18,10 @@ returns-then-at-eq0 c =
 
 pub returns : goal.returns
 returns c =
-    let s = c in
-    let a = s.args in
-    let g = s.begin_v2-at in
+    let a = c.args in
+    let g = c.begin_v2-at in
     let m : List ℕ = word a.id ++ word (length a.path.now) ++ a.path.now ++ (word a.id ++ word a.mode.0) in
     cc (
-    go_on a.out.now m 4 g.new.out g.result g.ensures.result_after (word a.flags.0 ∷ []) 0 refl s.if-at-eq0.false
+    go_on a.out.now m 4 g.new.out g.result g.ensures.result_after (word a.flags.0 ∷ []) 0 refl c.if-at-eq0.false
     ∙ begun-whole a.out.now _ _ (snd2-bytes a.id a.path.now a.mode.0 a.flags.0)
     )

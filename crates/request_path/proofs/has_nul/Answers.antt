@@ -23,5 +23,4 @@ loop-i-init c = refl
 
 pub returns : goal.returns
 returns c =
-    let l = c in
-    sym (rw (l.loop-i.invariant, drop_of_length-le l.args.path.now {i = l.loop-i.i} c.loop-i-test.false) (or-false l.loop-i.nul))
+    sym (rw (c.loop-i.invariant, drop_of_length-le c.args.path.now {i = c.loop-i.i} c.loop-i-test.false) (or-false c.loop-i.nul))

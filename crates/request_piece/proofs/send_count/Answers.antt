@@ -28,5 +28,4 @@ overflow_add-path c = omega (arith, (formatted (goal.at.overflow_add-path c).Aft
 
 pub returns : goal.returns
 returns c =
-    let f = c in
-    c.low.ensures ∙ ap (λ n. low32 (length f.args.path.now + (1 + n))) (formatted (goal.at.returns c).After-format_u32-n).1
+    c.low.ensures ∙ ap (λ n. low32 (length c.args.path.now + (1 + n))) (formatted (goal.at.returns c).After-format_u32-n).1

@@ -12,13 +12,11 @@ loop-i-init c = (search rules, ap last_comma (drop-length c.args.text.now))
 
 pub returns-then-text-at-eq44 : goal.returns-then-text-at-eq44
 returns-then-text-at-eq44 c =
-    let l = c in
-    sym (comma-here _ l.loop-i.i c.loop-i-test.true l.loop-i.invariant.0 l.loop-i.invariant.1 c.if-text-at-eq44.true)
+    sym (comma-here _ c.loop-i.i c.loop-i-test.true c.loop-i.invariant.0 c.loop-i.invariant.1 c.if-text-at-eq44.true)
 
 pub loop-i-preserved : goal.loop-i-preserved
 loop-i-preserved c =
-    let l = c in
-    (search rules, comma-before _ l.loop-i.i c.loop-i-test.true l.loop-i.invariant.0 l.loop-i.invariant.1 c.if-text-at-eq44.false)
+    (search rules, comma-before _ c.loop-i.i c.loop-i-test.true c.loop-i.invariant.0 c.loop-i.invariant.1 c.if-text-at-eq44.false)
 
 pub returns : goal.returns
 returns c =

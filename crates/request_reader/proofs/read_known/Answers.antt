@@ -18,28 +18,23 @@ arm c i a e f = rw e (f ∙ on-known (c.args.s.now) c.u32_at-arg.result i c.requ
 
 pub returns-in-Stat : goal.returns-in-Stat
 returns-in-Stat c =
-    let l = c in
-    arm (goal.at.returns-in-Stat c).After-u32_at-arg STAT _ (ap id_of c.in-Stat.is) (c.read_path.ensures ∙ sym (on-path stat l.u32_at-arg.result (l.args.s.now)))
+    arm (goal.at.returns-in-Stat c).After-u32_at-arg STAT _ (ap id_of c.in-Stat.is) (c.read_path.ensures ∙ sym (on-path stat c.u32_at-arg.result (c.args.s.now)))
 
 pub returns-in-Sta2 : goal.returns-in-Sta2
 returns-in-Sta2 c =
-    let l = c in
-    arm (goal.at.returns-in-Sta2 c).After-u32_at-arg STA2 _ (ap id_of c.in-Sta2.is) (c.read_path-in-Sta2.ensures ∙ sym (on-path sta2 l.u32_at-arg.result (l.args.s.now)))
+    arm (goal.at.returns-in-Sta2 c).After-u32_at-arg STA2 _ (ap id_of c.in-Sta2.is) (c.read_path-in-Sta2.ensures ∙ sym (on-path sta2 c.u32_at-arg.result (c.args.s.now)))
 
 pub returns-in-List : goal.returns-in-List
 returns-in-List c =
-    let l = c in
-    arm (goal.at.returns-in-List c).After-u32_at-arg LIST _ (ap id_of c.in-List.is) (c.read_path-in-List.ensures ∙ sym (on-path list l.u32_at-arg.result (l.args.s.now)))
+    arm (goal.at.returns-in-List c).After-u32_at-arg LIST _ (ap id_of c.in-List.is) (c.read_path-in-List.ensures ∙ sym (on-path list c.u32_at-arg.result (c.args.s.now)))
 
 pub returns-in-Lis2 : goal.returns-in-Lis2
 returns-in-Lis2 c =
-    let l = c in
-    arm (goal.at.returns-in-Lis2 c).After-u32_at-arg LIS2 _ (ap id_of c.in-Lis2.is) (c.read_path-in-Lis2.ensures ∙ sym (on-path lis2 l.u32_at-arg.result (l.args.s.now)))
+    arm (goal.at.returns-in-Lis2 c).After-u32_at-arg LIS2 _ (ap id_of c.in-Lis2.is) (c.read_path-in-Lis2.ensures ∙ sym (on-path lis2 c.u32_at-arg.result (c.args.s.now)))
 
 pub returns-in-Recv : goal.returns-in-Recv
 returns-in-Recv c =
-    let l = c in
-    arm (goal.at.returns-in-Recv c).After-u32_at-arg RECV _ (ap id_of c.in-Recv.is) (c.read_path-in-Recv.ensures ∙ sym (on-path recv l.u32_at-arg.result (l.args.s.now)))
+    arm (goal.at.returns-in-Recv c).After-u32_at-arg RECV _ (ap id_of c.in-Recv.is) (c.read_path-in-Recv.ensures ∙ sym (on-path recv c.u32_at-arg.result (c.args.s.now)))
 
 pub returns-in-Rcv2 : goal.returns-in-Rcv2
 returns-in-Rcv2 c = arm (goal.at.returns-in-Rcv2 c).After-u32_at-arg RCV2 _ (ap id_of c.in-Rcv2.is) c.read_rcv2.ensures
@@ -56,8 +51,7 @@ returns-in-Data c = arm (goal.at.returns-in-Data c).After-u32_at-arg DATA _ (ap 
 pub returns-in-Done : goal.returns-in-Done
 unfolding arg_ok following body_of
 returns-in-Done c =
-    let l = c in
-    arm (goal.at.returns-in-Done c).After-u32_at-arg DONE _ (ap id_of c.in-Done.is) (sym (on-whole time l.u32_at-arg.result (l.args.s.now) refl l.requires))
+    arm (goal.at.returns-in-Done c).After-u32_at-arg DONE _ (ap id_of c.in-Done.is) (sym (on-whole time c.u32_at-arg.result (c.args.s.now) refl c.requires))
 
 pub returns-in-Quit : goal.returns-in-Quit
 returns-in-Quit c = arm (goal.at.returns-in-Quit c).After-u32_at-arg QUIT _ (ap id_of c.in-Quit.is) c.read_quit.ensures
@@ -65,23 +59,19 @@ returns-in-Quit c = arm (goal.at.returns-in-Quit c).After-u32_at-arg QUIT _ (ap 
 pub returns-in-Okay : goal.returns-in-Okay
 unfolding arg_ok
 returns-in-Okay c =
-    let l = c in
-    arm (goal.at.returns-in-Okay c).After-u32_at-arg OKAY _ (ap id_of c.in-Okay.is) (sym (on-refused foreign l.u32_at-arg.result (l.args.s.now) refl))
+    arm (goal.at.returns-in-Okay c).After-u32_at-arg OKAY _ (ap id_of c.in-Okay.is) (sym (on-refused foreign c.u32_at-arg.result (c.args.s.now) refl))
 
 pub returns-in-Fail : goal.returns-in-Fail
 unfolding arg_ok
 returns-in-Fail c =
-    let l = c in
-    arm (goal.at.returns-in-Fail c).After-u32_at-arg FAIL _ (ap id_of c.in-Fail.is) (sym (on-refused foreign l.u32_at-arg.result (l.args.s.now) refl))
+    arm (goal.at.returns-in-Fail c).After-u32_at-arg FAIL _ (ap id_of c.in-Fail.is) (sym (on-refused foreign c.u32_at-arg.result (c.args.s.now) refl))
 
 pub returns-in-Dent : goal.returns-in-Dent
 unfolding arg_ok
 returns-in-Dent c =
-    let l = c in
-    arm (goal.at.returns-in-Dent c).After-u32_at-arg DENT _ (ap id_of c.in-Dent.is) (sym (on-refused foreign l.u32_at-arg.result (l.args.s.now) refl))
+    arm (goal.at.returns-in-Dent c).After-u32_at-arg DENT _ (ap id_of c.in-Dent.is) (sym (on-refused foreign c.u32_at-arg.result (c.args.s.now) refl))
 
 pub returns-in-Dnt2 : goal.returns-in-Dnt2
 unfolding arg_ok
 returns-in-Dnt2 c =
-    let l = c in
-    arm (goal.at.returns-in-Dnt2 c).After-u32_at-arg DNT2 _ (ap id_of c.in-Dnt2.is) (sym (on-refused foreign l.u32_at-arg.result (l.args.s.now) refl))
+    arm (goal.at.returns-in-Dnt2 c).After-u32_at-arg DNT2 _ (ap id_of c.in-Dnt2.is) (sym (on-refused foreign c.u32_at-arg.result (c.args.s.now) refl))

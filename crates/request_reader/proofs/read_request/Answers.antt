@@ -34,7 +34,6 @@ returns-in-Nothing c =
 
 pub returns-in-Id : goal.returns-in-Id
 returns-in-Id c =
-    let k = c in
-    let a = k.args in
+    let a = c.args in
     let (long, id) = found (goal.at.returns-in-Id c).After-from_bytes in
-    c.read_known.ensures ∙ sym (on_some (table_of a.ids) a.s.now long (id_of k.in-Id.id) (id ∙ ap found_id k.in-Id.is))
+    c.read_known.ensures ∙ sym (on_some (table_of a.ids) a.s.now long (id_of c.in-Id.id) (id ∙ ap found_id c.in-Id.is))

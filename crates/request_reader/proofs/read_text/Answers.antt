@@ -16,27 +16,22 @@ comma c = sym c.last_comma.ensures ∙ ap place_of c.in-At.is
 
 pub mode_after-requires : goal.mode_after-requires
 mode_after-requires c =
-    let l = c in
-    comma-within ((take (l.args.size - 8) (drop 8 l.args.s.now))) l.in-At.k (comma (goal.at.mode_after-requires c).In-At)
+    comma-within ((take (c.args.size - 8) (drop 8 c.args.s.now))) c.in-At.k (comma (goal.at.mode_after-requires c).In-At)
 
 pub returns-in-Nowhere : goal.returns-in-Nowhere
 returns-in-Nowhere c =
-    let o = c in
-    sym (ap (at_comma published ((take (o.args.size - 8) (drop 8 o.args.s.now)))) (sym c.last_comma.ensures ∙ ap place_of c.in-Nowhere.is))
+    sym (ap (at_comma published ((take (c.args.size - 8) (drop 8 c.args.s.now)))) (sym c.last_comma.ensures ∙ ap place_of c.in-Nowhere.is))
 
 pub returns-in-Invalid : goal.returns-in-Invalid
 returns-in-Invalid c =
-    let l = c in
     let mode = sym c.mode_after.ensures ∙ ap parsed c.in-Invalid.is in
-    sym (text-sent ((take (l.args.size - 8) (drop 8 l.args.s.now))) l.in-At.k none (comma (goal.at.returns-in-Invalid c).In-At) mode)
+    sym (text-sent ((take (c.args.size - 8) (drop 8 c.args.s.now))) c.in-At.k none (comma (goal.at.returns-in-Invalid c).In-At) mode)
 
 pub returns-in-Number : goal.returns-in-Number
 returns-in-Number c =
-    let l = c in
-    let k = l.in-At.k in
-    let o = c in
-    let a = o.args in
-    let all = text-size a.s.now a.size o.requires.0 o.requires.1 in
-    let path = text_path a.s.now a.size o.requires.0 o.requires.1 k (comma-within ((take (o.args.size - 8) (drop 8 o.args.s.now))) k (comma (goal.at.returns-in-Number c).In-At)) in
+    let k = c.in-At.k in
+    let a = c.args in
+    let all = text-size a.s.now a.size c.requires.0 c.requires.1 in
+    let path = text_path a.s.now a.size c.requires.0 c.requires.1 k (comma-within ((take (c.args.size - 8) (drop 8 c.args.s.now))) k (comma (goal.at.returns-in-Number c).In-At)) in
     let mode = sym c.mode_after.ensures ∙ ap parsed c.in-Number.is in
-    sym (rw (path, all) at (text-sent ((take (o.args.size - 8) (drop 8 o.args.s.now))) k (some c.in-Number.mode) (comma (goal.at.returns-in-Number c).In-At) mode))
+    sym (rw (path, all) at (text-sent ((take (c.args.size - 8) (drop 8 c.args.s.now))) k (some c.in-Number.mode) (comma (goal.at.returns-in-Number c).In-At) mode))

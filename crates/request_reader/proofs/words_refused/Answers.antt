@@ -5,14 +5,12 @@ use Rattle.request_reader.proofs.words_refused.Goals as goal
 
 pub returns-then-inner-own : goal.returns-then-inner-own
 returns-then-inner-own c =
-    let k = c in
-    let a = k.args in
-    let same = inner-same a.s.now a.at (λ i. (k.type_inv.s i).fits) k.requires.0 k.requires.1 in
+    let a = c.args in
+    let same = inner-same a.s.now a.at (λ i. (c.type_inv.s i).fits) c.requires.0 c.requires.1 in
     rw (same (sym c.u32_at-inner.ensures ∙ c.if-inner-own.true ∙ c.u32_at-own.ensures)) c.refused.ensures
 
 pub returns : goal.returns
 returns c =
-    let k = c in
-    let a = k.args in
-    let other = inner-other a.s.now a.at (λ i. (k.type_inv.s i).fits) k.requires.0 k.requires.1 in
+    let a = c.args in
+    let other = inner-other a.s.now a.at (λ i. (c.type_inv.s i).fits) c.requires.0 c.requires.1 in
     rw (other (λ e. c.if-inner-own.false (c.u32_at-inner.ensures ∙ e ∙ sym c.u32_at-own.ensures)))

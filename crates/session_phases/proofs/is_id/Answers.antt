@@ -12,9 +12,8 @@ use Rattle.session_phases.proofs.is_id.Goals as goal
 
 pub returns : goal.returns
 returns c =
-    let s = c in
-    let a = s.args in
-    let n = c.u32_at.ensures ∙ whole_in 4 0 (u32_at 0) a.rx.now a.head s.requires in
+    let a = c.args in
+    let n = c.u32_at.ensures ∙ whole_in 4 0 (u32_at 0) a.rx.now a.head c.requires in
     ap (λ (k : ℕ). eqb k c.number.result) n
-    ∙ same_id a.rx.now a.head s.requires (λ k. (s.type_inv.rx k).fits) c.number.result (omega arith)
+    ∙ same_id a.rx.now a.head c.requires (λ k. (c.type_inv.rx k).fits) c.number.result (omega arith)
     ∙ ap (λ (k : ℕ). same (id_at (drop a.head a.rx.now)) (bytes_of 4 k)) c.number.ensures

@@ -29,61 +29,51 @@ module _ (c : After-shared_slice_known-1) where
 
 pub returns-then-is_id : goal.returns-then-is_id
 returns-then-is_id c =
-    let s = c in
     by-want (goal.at.returns-then-is_id c).After-shared_slice_known-1 c.in-Stat.is
     (simp (said (goal.at.returns-then-is_id c).After-shared_slice_known-1 c.is_id.ensures c.stat_id.ensures c.if-is_id.true) c.goes.ensures)
 
 pub returns-then-is_id-2 : goal.returns-then-is_id-2
 returns-then-is_id-2 c =
-    let s = c in
     by-want (goal.at.returns-then-is_id-2 c).After-shared_slice_known-1 c.in-Entry.is
     (simp (said (goal.at.returns-then-is_id-2 c).After-shared_slice_known-1 c.is_id-in-Entry.ensures c.entry_id.ensures c.if-is_id-2.true) c.goes-then-is_id-2.ensures)
 
 pub returns-then-is_id-3 : goal.returns-then-is_id-3
 returns-then-is_id-3 c =
-    let s = c in
     by-want (goal.at.returns-then-is_id-3 c).After-shared_slice_known-1 c.in-Entry.is
     (simp (said (goal.at.returns-then-is_id-3 c).After-shared_slice_known-1 c.is_id-in-Entry.ensures c.entry_id.ensures c.if-is_id-2.false, sym c.is_id-in-Entry-2.ensures ∙ c.if-is_id-3.true) c.goes-then-is_id-3.ensures)
 
 pub returns-then-is_id-4 : goal.returns-then-is_id-4
 returns-then-is_id-4 c =
-    let s = c in
     by-want (goal.at.returns-then-is_id-4 c).After-shared_slice_known-1 c.in-Chunk.is
     (simp (sym c.is_id-in-Chunk.ensures ∙ c.if-is_id-4.true) c.goes-then-is_id-4.ensures)
 
 pub returns-then-is_id-5 : goal.returns-then-is_id-5
 returns-then-is_id-5 c =
-    let s = c in
     by-want (goal.at.returns-then-is_id-5 c).After-shared_slice_known-1 c.in-Chunk.is
     (simp (sym c.is_id-in-Chunk.ensures ∙ c.if-is_id-4.false, sym c.is_id-in-Chunk-2.ensures ∙ c.if-is_id-5.true) c.stops.ensures)
 
 pub returns-then-is_id-6 : goal.returns-then-is_id-6
 returns-then-is_id-6 c =
-    let s = c in
     by-want (goal.at.returns-then-is_id-6 c).After-shared_slice_known-1 c.in-Okay.is
     (simp (sym c.is_id-in-Okay.ensures ∙ c.if-is_id-6.true) c.stops-then-is_id-6.ensures)
 
 pub returns-else-is_id : goal.returns-else-is_id
 returns-else-is_id c =
-    let s = c in
     by-want (goal.at.returns-else-is_id c).After-shared_slice_known-1 c.in-Stat.is
     (simp (said (goal.at.returns-else-is_id c).After-shared_slice_known-1 c.is_id.ensures c.stat_id.ensures c.if-is_id.false) c.unexpected.ensures)
 
 pub returns-else-is_id-3 : goal.returns-else-is_id-3
 returns-else-is_id-3 c =
-    let s = c in
     by-want (goal.at.returns-else-is_id-3 c).After-shared_slice_known-1 c.in-Entry.is
     (simp (said (goal.at.returns-else-is_id-3 c).After-shared_slice_known-1 c.is_id-in-Entry.ensures c.entry_id.ensures c.if-is_id-2.false, sym c.is_id-in-Entry-2.ensures ∙ c.if-is_id-3.false) c.unexpected-in-Entry.ensures)
 
 pub returns-else-is_id-5 : goal.returns-else-is_id-5
 returns-else-is_id-5 c =
-    let s = c in
     by-want (goal.at.returns-else-is_id-5 c).After-shared_slice_known-1 c.in-Chunk.is
     (simp (sym c.is_id-in-Chunk.ensures ∙ c.if-is_id-4.false, sym c.is_id-in-Chunk-2.ensures ∙ c.if-is_id-5.false) c.unexpected-in-Chunk.ensures)
 
 pub returns-else-is_id-6 : goal.returns-else-is_id-6
 returns-else-is_id-6 c =
-    let s = c in
     by-want (goal.at.returns-else-is_id-6 c).After-shared_slice_known-1 c.in-Okay.is
     (simp (sym c.is_id-in-Okay.ensures ∙ c.if-is_id-6.false) c.unexpected-in-Okay.ensures)
 

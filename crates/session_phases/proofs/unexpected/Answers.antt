@@ -4,5 +4,4 @@ use Rattle.session_phases.proofs.unexpected.Goals as goal
 
 pub returns : goal.returns
 returns c =
-    let s = c in
-    simp (id-in s.args.rx.now s.args.head s.requires) c.stops.ensures
+    simp (id-in c.args.rx.now c.args.head c.requires) c.stops.ensures

@@ -18,10 +18,9 @@ returns-then-buf-s c = simp (lt-ltb _ _ c.if-buf-s.true) (half-eq _ c.awaiting.e
 
 pub awaiting-requires-2 : goal.awaiting-requires-2
 awaiting-requires-2 c =
-    let s = c in
-    let b = s.args.s.buf in
+    let b = c.args.s.buf in
     let e : c.compact-front.result ≡ cursor 0 (held_count b) =
-    ap (λ (z : List ℕ × RecvBuf). z.1) c.compact-front.ensures ∙ compacted-head s.args.rx.now b (record { ordered = omega arith; within = omega arith }) in
+    ap (λ (z : List ℕ × RecvBuf). z.1) c.compact-front.ensures ∙ compacted-head c.args.rx.now b (record { ordered = omega arith; within = omega arith }) in
     rw e (omega arith, omega arith, omega arith)
 
 pub returns : goal.returns

@@ -65,22 +65,19 @@ returns-then-held-n c =
 
 pub keep_text-requires : goal.keep_text-requires
 keep_text-requires c =
-    let t = c in
     let g = c.requires in
     (omega (arith, g, keeps (goal.at.keep_text-requires c).After-turn_at-turn, held (goal.at.keep_text-requires c).After-turn_at-turn), omega (arith, g, keeps (goal.at.keep_text-requires c).After-turn_at-turn, fits (goal.at.keep_text-requires c).After-turn_at-turn))
 
 pub returns-in-Stop : goal.returns-in-Stop
 returns-in-Stop c =
-    let t = c in
     let k = c.keep_text.ensures in
-    turn_stops ((let a = t.args in st a.s a.rx.now a.msg.now)) t.turn_at-turn.result _ _ (moves (goal.at.returns-in-Stop c).After-turn_at-turn _ _ c.taking-rest.ensures c.at-next.ensures) k _ _ c.answering-in-Stop.ensures c.in-Stop.is
-    ∙ ap (λ (u : Turn). followed (turned ((let a = t.args in st a.s a.rx.now a.msg.now)) u) u.then) (taken (goal.at.returns-in-Stop c).After-turn_at-turn)
-    ∙ sym (hopped-turns ((let a = t.args in st a.s a.rx.now a.msg.now)) _ _ (fits (goal.at.returns-in-Stop c).After-turn_at-turn) (held (goal.at.returns-in-Stop c).After-turn_at-turn))
+    turn_stops ((let a = c.args in st a.s a.rx.now a.msg.now)) c.turn_at-turn.result _ _ (moves (goal.at.returns-in-Stop c).After-turn_at-turn _ _ c.taking-rest.ensures c.at-next.ensures) k _ _ c.answering-in-Stop.ensures c.in-Stop.is
+    ∙ ap (λ (u : Turn). followed (turned ((let a = c.args in st a.s a.rx.now a.msg.now)) u) u.then) (taken (goal.at.returns-in-Stop c).After-turn_at-turn)
+    ∙ sym (hopped-turns ((let a = c.args in st a.s a.rx.now a.msg.now)) _ _ (fits (goal.at.returns-in-Stop c).After-turn_at-turn) (held (goal.at.returns-in-Stop c).After-turn_at-turn))
 
 pub returns-in-Go : goal.returns-in-Go
 returns-in-Go c =
-    let t = c in
     let k = c.keep_text.ensures in
-    turn_goes ((let a = t.args in st a.s a.rx.now a.msg.now)) t.turn_at-turn.result _ _ (moves (goal.at.returns-in-Go c).After-turn_at-turn _ _ c.taking-rest.ensures c.at-next.ensures) k _ c.in-Go.is
-    ∙ ap (λ (u : Turn). followed (turned ((let a = t.args in st a.s a.rx.now a.msg.now)) u) u.then) (taken (goal.at.returns-in-Go c).After-turn_at-turn)
-    ∙ sym (hopped-turns ((let a = t.args in st a.s a.rx.now a.msg.now)) _ _ (fits (goal.at.returns-in-Go c).After-turn_at-turn) (held (goal.at.returns-in-Go c).After-turn_at-turn))
+    turn_goes ((let a = c.args in st a.s a.rx.now a.msg.now)) c.turn_at-turn.result _ _ (moves (goal.at.returns-in-Go c).After-turn_at-turn _ _ c.taking-rest.ensures c.at-next.ensures) k _ c.in-Go.is
+    ∙ ap (λ (u : Turn). followed (turned ((let a = c.args in st a.s a.rx.now a.msg.now)) u) u.then) (taken (goal.at.returns-in-Go c).After-turn_at-turn)
+    ∙ sym (hopped-turns ((let a = c.args in st a.s a.rx.now a.msg.now)) _ _ (fits (goal.at.returns-in-Go c).After-turn_at-turn) (held (goal.at.returns-in-Go c).After-turn_at-turn))

@@ -36,25 +36,22 @@ returns-then-free-n c = simp (ne_eqb _ _ c.if-n-eq0.false, lt-ltb _ _ c.if-free-
 
 pub returns-then-tail-s : goal.returns-then-tail-s
 returns-then-tail-s c =
-    let f = c in
     out_eq _ _ (cc c.at-session.ensures)
-    ∙ read_stays (from (goal.at.returns-then-tail-s c).After-filling-buf) (good (goal.at.returns-then-tail-s c).After-filling-buf) _ _ f.filling-buf.ensures f.if-free-n.false (came (goal.at.returns-then-tail-s c).After-filling-buf) _ _ _ c.if-tail-until.true c.if-tail-s.true
+    ∙ read_stays (from (goal.at.returns-then-tail-s c).After-filling-buf) (good (goal.at.returns-then-tail-s c).After-filling-buf) _ _ c.filling-buf.ensures c.if-free-n.false (came (goal.at.returns-then-tail-s c).After-filling-buf) _ _ _ c.if-tail-until.true c.if-tail-s.true
 
 pub read_to-requires : goal.read_to-requires
-read_to-requires c = let f = c in (good (goal.at.read_to-requires c).After-filling-buf, order (goal.at.read_to-requires c).After-filling-buf, inside (goal.at.read_to-requires c).After-filling-buf)
+read_to-requires c = (good (goal.at.read_to-requires c).After-filling-buf, order (goal.at.read_to-requires c).After-filling-buf, inside (goal.at.read_to-requires c).After-filling-buf)
 
 pub returns-then-tail-until : goal.returns-then-tail-until
 returns-then-tail-until c =
-    let f = c in
     c.read_to.ensures
-    ∙ read-full (from (goal.at.returns-then-tail-until c).After-filling-buf) (good (goal.at.returns-then-tail-until c).After-filling-buf) _ _ f.filling-buf.ensures f.if-free-n.false (came (goal.at.returns-then-tail-until c).After-filling-buf) _ _ _
+    ∙ read-full (from (goal.at.returns-then-tail-until c).After-filling-buf) (good (goal.at.returns-then-tail-until c).After-filling-buf) _ _ c.filling-buf.ensures c.if-free-n.false (came (goal.at.returns-then-tail-until c).After-filling-buf) _ _ _
     c.if-tail-until.true c.if-tail-s.false
 
 pub read_to-requires-2 : goal.read_to-requires-2
-read_to-requires-2 c = let f = c in (good (goal.at.read_to-requires-2 c).After-filling-buf, order (goal.at.read_to-requires-2 c).After-filling-buf, inside (goal.at.read_to-requires-2 c).After-filling-buf)
+read_to-requires-2 c = (good (goal.at.read_to-requires-2 c).After-filling-buf, order (goal.at.read_to-requires-2 c).After-filling-buf, inside (goal.at.read_to-requires-2 c).After-filling-buf)
 
 pub returns : goal.returns
 returns c =
-    let f = c in
     c.read_to-2.ensures
-    ∙ read_whole (from (goal.at.returns c).After-filling-buf) (good (goal.at.returns c).After-filling-buf) _ _ f.filling-buf.ensures f.if-free-n.false (came (goal.at.returns c).After-filling-buf) _ _ _ c.if-tail-until.false
+    ∙ read_whole (from (goal.at.returns c).After-filling-buf) (good (goal.at.returns c).After-filling-buf) _ _ c.filling-buf.ensures c.if-free-n.false (came (goal.at.returns c).After-filling-buf) _ _ _ c.if-tail-until.false

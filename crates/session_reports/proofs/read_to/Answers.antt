@@ -11,8 +11,7 @@ use Rattle.session_reports.proofs.read_to.Goals as goal
 
 pub returns : goal.returns
 returns c =
-    let o = c in
-    let a = o.args in
+    let a = c.args in
     c.read_on.ensures
     ∙ ap (λ (z : Session). guarded (st z a.rx.now a.msg.now) (read_on (st z a.rx.now a.msg.now) a.phase a.lost)) c.at-session.ensures
-    ∙ guarded-in _ _ (good-at (st a.s a.rx.now a.msg.now) a.buf a.rx.now a.msg.now Idle o.requires.0 o.requires.1 o.requires.2 refl refl)
+    ∙ guarded-in _ _ (good-at (st a.s a.rx.now a.msg.now) a.buf a.rx.now a.msg.now Idle c.requires.0 c.requires.1 c.requires.2 refl refl)

@@ -34,17 +34,15 @@ loop-start-init c =
 
 pub loop-start-preserved : goal.loop-start-preserved
 loop-start-preserved c =
-    let l = c in
-    let banner = l.args.banner.now in
+    let banner = c.args.banner.now in
     let end = c.piece_end-end.result in
-    let next = pieces-within banner l.loop-start.start c.loop-start-test.true ∙ c.piece_end-end.ensures.2 in
+    let next = pieces-within banner c.loop-start.start c.loop-start-test.true ∙ c.piece_end-end.ensures.2 in
     let named = c.number_at-number.ensures in
-    let more = one_found l.loop-start.found (slice l.loop-start.start end banner) (pieces_from (end + 1) banner) c.number_at-number.result l.loop-start.invariant.0 named.0 named.1 in
-    (search rules, λ n h k. l.loop-start.invariant.1 n h k ∙ rw next (more n h k))
+    let more = one_found c.loop-start.found (slice c.loop-start.start end banner) (pieces_from (end + 1) banner) c.number_at-number.result c.loop-start.invariant.0 named.0 named.1 in
+    (search rules, λ n h k. c.loop-start.invariant.1 n h k ∙ rw next (more n h k))
 
 pub returns : goal.returns
 returns c =
-    let l = c in
-    let banner = l.args.banner.now in
-    seven banner l.loop-start.found
-    (λ n h k. sym (l.loop-start.invariant.1 n h k ∙ rw (pieces-past banner l.loop-start.start c.loop-start-test.false) (last_found l.loop-start.found n)))
+    let banner = c.args.banner.now in
+    seven banner c.loop-start.found
+    (λ n h k. sym (c.loop-start.invariant.1 n h k ∙ rw (pieces-past banner c.loop-start.start c.loop-start-test.false) (last_found c.loop-start.found n)))

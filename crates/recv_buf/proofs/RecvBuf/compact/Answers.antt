@@ -21,10 +21,9 @@ returns-then-buf-tail c = simp (le-leb _ _ c.if-tail-head.false, lt-leb _ _ c.if
 
 pub loop-i-preserved : goal.loop-i-preserved
 loop-i-preserved c =
-    let s = c in
     let l = c.loop-i in (
       omega arith,
-      rw l.invariant.1 (shift s.args.buf.now s.args.self.head l.i (omega arith)),
+      rw l.invariant.1 (shift c.args.buf.now c.args.self.head l.i (omega arith)),
       simp length-set l.invariant.2,
     )
 

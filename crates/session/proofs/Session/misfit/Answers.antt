@@ -8,25 +8,21 @@ use Rattle.session.proofs.Session.misfit.Goals as goal
 pub returns-then-buf : goal.returns-then-buf
 unfolding misfit
 returns-then-buf c =
-    let b = c in
-    simp (eq-eqb _ _ b.if-rx-self.true, eq-eqb _ _ b.if-msg-self.true, lt-ltb _ _ c.if-buf.true)
+    simp (eq-eqb _ _ c.if-rx-self.true, eq-eqb _ _ c.if-msg-self.true, lt-ltb _ _ c.if-buf.true)
 
 pub returns-then-self-buf : goal.returns-then-self-buf
 unfolding misfit
 returns-then-self-buf c =
-    let b = c in
-    simp (eq-eqb _ _ b.if-rx-self.true, eq-eqb _ _ b.if-msg-self.true, le-ltb _ _ b.if-buf.false, lt-ltb _ _ c.if-self-buf.true)
+    simp (eq-eqb _ _ c.if-rx-self.true, eq-eqb _ _ c.if-msg-self.true, le-ltb _ _ c.if-buf.false, lt-ltb _ _ c.if-self-buf.true)
 
 pub returns-then-self-lt8 : goal.returns-then-self-lt8
 unfolding misfit
 returns-then-self-lt8 c =
-    let b = c in
-    simp (eq-eqb _ _ b.if-rx-self.true, eq-eqb _ _ b.if-msg-self.true, le-ltb _ _ b.if-buf.false, le-ltb _ _ c.if-self-buf.false, lt-ltb _ _ c.if-self-lt8.true)
+    simp (eq-eqb _ _ c.if-rx-self.true, eq-eqb _ _ c.if-msg-self.true, le-ltb _ _ c.if-buf.false, le-ltb _ _ c.if-self-buf.false, lt-ltb _ _ c.if-self-lt8.true)
 
 pub returns-then-msg-self : goal.returns-then-msg-self
 returns-then-msg-self c =
-    let b = c in
-    sym (misfit-last _ _ _ b.if-rx-self.true b.if-msg-self.true b.if-buf.false c.if-self-buf.false c.if-self-lt8.false)
+    sym (misfit-last _ _ _ c.if-rx-self.true c.if-msg-self.true c.if-buf.false c.if-self-buf.false c.if-self-lt8.false)
 
 pub returns-then-rx-self : goal.returns-then-rx-self
 unfolding misfit
