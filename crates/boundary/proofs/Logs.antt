@@ -34,7 +34,7 @@ use Rattle.session.specs.EveryHost.{CodedHost}
 use Rattle.session.specs.Gate.{refuses}
 use Rattle.session.specs.Host.{told, Spare, Step, Host, Ask, World, new_call, has_read, has_stopped, composing, counted, filling, windowed, lent_of, Run, over_with, unended, grant_read, grant_write, grant_close, granted, run, enough, Entry, on_run}
 use Rattle.session.specs.Reports.{report_read, report_wrote, report_fault}
-use Rattle.session.specs.State.{St, st, Out, at}
+use Rattle.session.specs.State.{St, st, Out}
 use Rattle.session.proofs.Gated.{run_at, log_at}
 use Rattle.session.proofs.Buf.{sound-of, good-at, held-came}
 use Rattle.session.proofs.Run.{length-filling}

@@ -2,8 +2,8 @@
 -- Assumes nothing.
 use Rattle.std.specs.Prelude.{ℕ, suc, ◌≤◌, ◌<◌, ◌^◌, List, ◌≡◌, length}
 use Rattle.protocol.specs.Answers.{End, closed, error}
-use Rattle.protocol.specs.Calls.{Version, v1, v2, Call, call, next_entry, next_chunk}
-use Rattle.protocol.specs.Messages.{PathOnly, stat, sta2, list, lis2, recv, Request, ask, rcv2, send, snd2, chunk, done, quit}
+use Rattle.protocol.specs.Calls.{v1, v2, Call, call, next_entry, next_chunk}
+use Rattle.protocol.specs.Messages.{PathOnly, stat, sta2, list, lis2, recv, ask, rcv2, send, snd2, chunk, done, quit}
 use Rattle.id_table.specs.Settings.{settings_of}
 use Rattle.record.specs.Record.{word_of, size}
 use Rattle.recv_buf.specs.RecvBuf.{cursor, held_bytes}

@@ -1,7 +1,7 @@
 -- What a session's opening and its steps come to on its record of 256 bytes: the right-hand sides of their contracts, over the lent record, both
 -- buffers and the slice that the reply goes to. The exported functions are these with totals and hours (hours_totals/specs/Crossing).
 -- Assumes nothing.
-use Rattle.std.specs.Prelude.{ℕ, ◌+◌, ◌-◌, Bool, true, false, ◌&&◌, ◌||◌, List, [], ◌∷◌, eqb, ltb, leb, length, get_or}
+use Rattle.std.specs.Prelude.{ℕ, ◌+◌, ◌-◌, Bool, true, false, ◌&&◌, List, [], ◌∷◌, eqb, ltb, leb, length, get_or}
 use Rattle.std.proofs.Math.Option.{Option, none, some}
 use Rattle.protocol.specs.Bytes.{pick, put, bytes_of}
 use Rattle.protocol.specs.Features as P
@@ -17,7 +17,6 @@ use Rattle.session.specs.Calls.{fresh, open_refusal, refused_or, refusal_of, sta
 use Rattle.session.specs.Reports.{report_read, report_wrote, report_fault, refusal_at}
 use Rattle.session.specs.State as S
 use Rattle.session.specs.State.{St, st, Out, refusing}
-use Rattle.session.specs.declared.Answer.{Answer}
 use Rattle.session.specs.declared.Answer.TheVariants as A
 use Rattle.session.specs.declared.Fault.{Fault}
 use Rattle.session.specs.declared.Fault.TheVariants as F

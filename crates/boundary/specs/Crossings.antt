@@ -2,7 +2,7 @@
 -- 01 has the numbers of the answers; the others are this library's own, as docs/DECISIONS.md 18 to 21 fix them for every host: "what + 256 ×
 -- document 01's number", the calls 1 to 14, a fault's kind and code, eight bytes for each number of a reply, the lowest first.
 -- Assumes nothing.
-use Rattle.std.specs.Prelude.{ℕ, ◌*◌, Bool, true, false, List, [], ◌∷◌, ◌++◌, map, pos, negsuc, replicate}
+use Rattle.std.specs.Prelude.{ℕ, ◌*◌, List, [], ◌∷◌, ◌++◌, map, pos, negsuc, replicate}
 use Rattle.protocol.specs.Answers as P
 use Rattle.protocol.specs.Answers.{Answer, End, closed, error}
 use Rattle.protocol.specs.Bytes.{ascii}

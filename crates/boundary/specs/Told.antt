@@ -9,8 +9,8 @@
 --   numbers that the answer carries, in document 01's order. The part of an entry or a chunk lies in the receive buffer, that of a
 --   FAIL in the message buffer. An unexpected id is the number that its four bytes spell.
 -- Assumes nothing.
-use Rattle.std.specs.Prelude.{ℕ, ◌+◌, ◌*◌, List, [], ◌∷◌, ◌++◌, length}
-use Rattle.protocol.specs.Bytes.{bytes_of, le}
+use Rattle.std.specs.Prelude.{ℕ, ◌*◌, List, [], ◌∷◌, ◌++◌, length}
+use Rattle.protocol.specs.Bytes.{le}
 use Rattle.format_record.specs.declared.StatV1.{StatV1}
 use Rattle.format_record.specs.declared.StatV2.{StatV2}
 use Rattle.request_piece.specs.Pieces.{by_value}

@@ -1,7 +1,7 @@
 -- The session in its record: from the opening on, event after event, its steps refuse by the table and by nothing else.
 -- Assumes nothing.
 use Prim.Native.Nat.{ℕ, ◌≤◌, ◌<◌, ◌^◌}
-use mathlib.Core.Bool.{Bool, true, false, not, ◌&&◌}
+use mathlib.Core.Bool.{Bool, true, false, ◌&&◌}
 use mathlib.Core.List.{List, map}
 use mathlib.Core.Option.{Option, none, some}
 use mathlib.Core.Path.{◌≡◌, refl, sym, ap, ◌∙◌, subst}
@@ -13,7 +13,6 @@ use Rattle.protocol.specs.Answers as P
 use Rattle.protocol.specs.Answers.{Answer, refused}
 use Rattle.protocol.specs.Bytes.{Bytes, pick}
 use Rattle.protocol.specs.Calls.{v1, v2, Call, call, next_entry, next_chunk}
-use Rattle.protocol.specs.Refusal.{refuse}
 use Rattle.protocol.specs.Features.{features_of}
 use Rattle.protocol.specs.Ids.{all}
 use Rattle.protocol.specs.Messages.{stat, sta2, list, lis2, recv, ask, rcv2, send, snd2, chunk, done, quit}
@@ -45,7 +44,7 @@ use Rattle.boundary.proofs.Demand3.{ids-narrow}
 use Rattle.boundary.proofs.Heard.{heard-told}
 use Rattle.boundary.proofs.Reports.{NarrowRefusal, lets, by_number, by_feature}
 use Rattle.boundary.proofs.Steps.{Inv, Asked, idle, fine}
-use Rattle.boundary_misuse.specs.Misuse.{HostReport, has_read, wrote, fault, Act, start, report, Event, WideAct, Wide, crossed_by, Seen, opened, pending, misfits, call_of, numbered, refusal}
+use Rattle.boundary_misuse.specs.Misuse.{HostReport, has_read, wrote, fault, Act, start, report, Event, WideAct, Wide, crossed_by, Seen, opened, misfits, call_of, numbered, refusal}
 use Rattle.boundary_misuse.specs.Claim.{heard_of, Answers, seen_after, follow}
 use Rattle.boundary_misuse.proofs.Known.{Own, own_of, misfit-own, seen_of, Knows, knows, pending-is}
 use Rattle.boundary_misuse.proofs.Unchanged.{put_back_of, not-refused}

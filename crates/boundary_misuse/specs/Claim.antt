@@ -7,7 +7,7 @@ use Rattle.protocol.specs.Bytes.{has}
 use Rattle.session.specs.Host.{Show, told}
 use Rattle.boundary.specs.Crossing.{Crossed, OpenCrossed}
 use Rattle.boundary.specs.Heard.{heard}
-use Rattle.boundary_misuse.specs.Misuse.{Act, Event, Seen, closing, refusal, start, report}
+use Rattle.boundary_misuse.specs.Misuse.{Act, Event, Seen, closing, start, report}
 
 abbrev pub heard_of : Crossed → Show
 heard_of c = heard c.number c.out c.rx c.msg

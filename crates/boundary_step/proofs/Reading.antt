@@ -21,7 +21,6 @@ use Rattle.session.specs.declared.Session.{Session}
 use Rattle.fast_read.proofs.Tails.{Short, short-of, long_of}
 use Rattle.fast_read.specs.Short.{short_in}
 use Rattle.boundary_slow_path.specs.Slow.{slow_read}
-use Rattle.boundary_slow_path.proofs.Crossings.{cross_short}
 
 -- t is the tail that the record's numbers say
 module _ (rec rx msg lent out : List ℕ) (k t : ℕ) (e : t ≡ short_in (loaded rec) (length rx) (length msg) (length lent) k) where

@@ -1,14 +1,14 @@
 -- What the host reads of a moment. Assumes nothing.
-use Prim.Native.Nat.{ℕ, zero, suc, ◌+◌, ◌-◌, ◌*◌, ◌/◌, ◌%◌, ◌≤◌, ◌<◌, ◌^◌}
+use Prim.Native.Nat.{ℕ, zero, suc, ◌+◌, ◌-◌, ◌*◌, ◌/◌, ◌≤◌, ◌<◌, ◌^◌}
 use mathlib.Core.List.{List, [], ◌∷◌}
-use mathlib.Core.Path.{◌≡◌, refl, sym, ap, ◌∙◌}
+use mathlib.Core.Path.{◌≡◌, ap, ◌∙◌}
 use native.Mathlib.Omega.{arith}
 use borrow.Author.Tests.{le-leb, lt-leb}
 use lib.ListN.{length, drop}
-use Rattle.protocol.specs.Bytes.{number_at, over, put}
+use Rattle.protocol.specs.Bytes.{number_at, over}
 use Rattle.protocol.specs.Hours.{day_at, weekday, minute_at}
 use Rattle.protocol.proofs.Bytes.{le-bytes_of, put_in}
-use Rattle.calendar.specs.Calendar.{year_length, years, day_of, date_of}
+use Rattle.calendar.specs.Calendar.{years, day_of, date_of}
 use Rattle.calendar.specs.Claim.{Dating}
 use Rattle.calendar.specs.Crossing.{reply_size, misplaced, laid, five_size, five, date_bytes, five_in, cross_date}
 use Rattle.calendar.proofs.Calendar.{year-least, year-most, in_year, there, valid}

@@ -10,7 +10,7 @@ use lib.ListN.{length, get_or-eq_default}
 use Rattle.protocol.specs.Bytes.{pick, bytes_of, put}
 use Rattle.protocol.specs.Hours.{day_at, weekday, minute_at}
 use Rattle.protocol.proofs.Bytes.{put-put}
-use Rattle.calendar.specs.Calendar.{Date, date, leap, year_length, month_length, month_from, year_from, date_of}
+use Rattle.calendar.specs.Calendar.{Date, date, year_length, month_length, month_from, year_from, date_of}
 use Rattle.calendar.specs.Crossing.{reply_size, misplaced, laid, date_bytes, cross_date}
 use Rattle.calendar.proofs.Calendar.{year-least}
 use Rattle.calendar.proofs.Crossing.{short}

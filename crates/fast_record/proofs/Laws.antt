@@ -1,8 +1,7 @@
 -- A record whose session stands, by its numbers; and its session, stored with another step. Assumes nothing.
 use mathlib.Core.Bool.{Bool, true, false, not, ◌&&◌, and-eq-true_iff, true≢false}
 use mathlib.Core.List.{List, ◌++◌}
-use mathlib.Core.Option.{Option, none, some}
-use mathlib.Core.Path.{◌≡◌, refl, sym, ap, ◌∙◌, subst}
+use mathlib.Core.Path.{◌≡◌, refl, sym, ap, ◌∙◌}
 use Prim.Native.Nat.{ℕ, zero, suc, ◌+◌, ◌*◌, ◌%◌, ◌^◌, ◌≤◌, ◌<◌}
 use native.Mathlib.Decide.{dec_le}
 use native.Mathlib.Nat.{lt_of_not-le, lt_irrefl}
@@ -16,9 +15,8 @@ use Rattle.protocol.specs.Records.{u32_at, u64_at}
 use Rattle.protocol.proofs.Bytes.{le4, whole_in, whole_out, put_in}
 use Rattle.protocol.proofs.Records.{u64_in}
 use Rattle.ids.specs.Ids.{lower, upper, number_of}
-use Rattle.features.specs.Meaning.{listed}
 use Rattle.boundary.specs.Told.{out_size}
-use Rattle.record.specs.Fields.{step_numbers, registers, fields, pending_of, session_of, step_in}
+use Rattle.record.specs.Fields.{step_numbers, fields, pending_of, session_of, step_in}
 use Rattle.record.specs.Record.{size, words, word_of, stored, loaded}
 use Rattle.record.proofs.Numbers.{one-forth, bits-forth}
 use Rattle.record.proofs.Words.{word_in, length-words, words_append, numbers_from, words-from}
@@ -27,7 +25,6 @@ use Rattle.record_load.proofs.Held.{holds, held, unheld, held-size}
 use Rattle.recv_buf.specs.RecvBuf.{cursor}
 use Rattle.session.proofs.Misfit.{fits-misfit, misfit-fits}
 use Rattle.session.specs.Calls.{misfit}
-use Rattle.session.specs.Core.{features_from}
 use Rattle.session.specs.State.{at, begun, Fits}
 use Rattle.session.specs.declared.Pending.{Pending}
 use Rattle.session.specs.declared.Session.{Session}

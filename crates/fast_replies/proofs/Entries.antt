@@ -1,6 +1,6 @@
 -- An entry at the front of some bytes, as the code reads it and tells it. Assumes nothing.
-use mathlib.Core.Bool.{Bool, true, false}
-use mathlib.Core.List.{List, [], ◌∷◌}
+use mathlib.Core.Bool.{true, false}
+use mathlib.Core.List.{List, ◌∷◌}
 use mathlib.Core.Path.{◌≡◌, refl, sym, ap, ◌∙◌}
 use Prim.Native.Nat.{ℕ, ◌+◌, ◌-◌, ◌≤◌, ◌<◌}
 use native.Mathlib.Omega.{arith}
@@ -14,7 +14,6 @@ use Rattle.boundary.specs.Told.{stat_words, stat_v2_words, reply_bytes}
 use Rattle.format_record.specs.Told.{told_stat, told_stat2, stat_of, stat2_of, zero_stat, zero_stat2}
 use Rattle.format_record.specs.declared.StatV1.{StatV1}
 use Rattle.format_record.specs.declared.StatV2.{StatV2}
-use Rattle.record.specs.Fields.{unsigned}
 use Rattle.record.specs.Record.{words}
 use Rattle.recv_buf.specs.RecvBuf.{cursor, held_bytes}
 use Rattle.recv_buf.proofs.Laws.{Sound, slice-part, held_in_lem, held-length}

@@ -1,11 +1,10 @@
 -- A stat's reply at the front of some bytes, as the code reads it and tells it. Assumes nothing.
-use mathlib.Core.Bool.{Bool, true, false}
-use mathlib.Core.List.{List, [], ◌∷◌}
+use mathlib.Core.Bool.{true, false}
+use mathlib.Core.List.{List, ◌∷◌}
 use mathlib.Core.Path.{◌≡◌, refl, ap, ◌∙◌}
 use Prim.Native.Nat.{ℕ, ◌≤◌, ◌<◌}
-use native.Mathlib.Omega.{arith}
 use borrow.Author.Tests.{le-leb, lt-leb}
-use lib.ListN.{length, drop}
+use lib.ListN.{length}
 use Rattle.protocol.specs.Bytes.{whole, number_at, put}
 use Rattle.protocol.specs.Ids.{Dialect}
 use Rattle.protocol.specs.Records.{u32_at, stat_at, stat2_at, stat2_body}

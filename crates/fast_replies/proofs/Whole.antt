@@ -3,13 +3,13 @@
 use mathlib.Core.Bool.{Bool, true, false, not, ◌&&◌, and-eq-true_iff}
 use mathlib.Core.List.{List}
 use mathlib.Core.Path.{◌≡◌, refl, sym, ap, ◌∙◌}
-use Prim.Native.Nat.{ℕ, zero, suc, ◌+◌, ◌-◌, ◌≤◌, ◌<◌}
-use native.Mathlib.Nat.{add-zero, add_assoc, lt_irrefl}
+use Prim.Native.Nat.{ℕ, suc, ◌+◌, ◌≤◌, ◌<◌}
+use native.Mathlib.Nat.{add-zero, lt_irrefl}
 use native.Mathlib.Omega.{arith}
 use borrow.Author.Tests.{lt-ltb, leb-true, not-true}
 use lib.Dec.{eqb, leb}
 use lib.ListN.{length, take, drop}
-use Rattle.protocol.specs.Bytes.{pick, same}
+use Rattle.protocol.specs.Bytes.{same}
 use Rattle.protocol.specs.Ids.{Dialect, FAIL}
 use Rattle.protocol.specs.Records.{Stat as PanelStat, Stat2, Dent, Dent2, id_at, stat_at, stat2_at, dent_at, dent2_at}
 use Rattle.format_record.specs.Told.{stat_of, stat2_of, dent_of, dent2_of}
@@ -17,7 +17,7 @@ use Rattle.session_pump.proofs.Hops.{hopped-asks, hopped-turns}
 use Rattle.recv_buf.specs.RecvBuf.{cursor, held_count, held_bytes}
 use Rattle.recv_buf.proofs.Laws.{held-length}
 use Rattle.session.proofs.Buf.{id-in, stat-in, stat2-in, dent-in, dent2-in, sound-of, view}
-use Rattle.session.specs.Phases.{wants, stat_size_of, entry_size_of, stat_id_of, entry_id_of, stopping, going, headed, entry_turn, turn_at}
+use Rattle.session.specs.Phases.{wants, stat_size_of, entry_size_of, stat_id_of, entry_id_of, stopping, going, headed, turn_at}
 use Rattle.session.specs.State as S
 use Rattle.session.specs.State.{dialect_in, St, st, at, Good}
 use Rattle.session.specs.Steps.{reading, asked, kept, turn_of, pumped, read_on}
@@ -27,7 +27,6 @@ use Rattle.session.specs.declared.Answer.TheVariants as A
 use Rattle.session.specs.declared.Pending.TheVariants.{Idle}
 use Rattle.session.specs.declared.Phase.{Phase}
 use Rattle.session.specs.declared.Phase.TheVariants.{Header, Stat, Entry, NameV1, NameV2}
-use Rattle.session.specs.declared.Turn.{Turn}
 use Rattle.session.specs.declared.Version.{Version}
 use Rattle.session.specs.declared.Version.TheVariants.{V1, V2}
 use Rattle.session.specs.declared.Want.TheVariants as W

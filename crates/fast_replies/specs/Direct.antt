@@ -5,7 +5,7 @@ use Rattle.std.specs.Prelude.{ℕ, ◌+◌, ◌-◌, Bool, true, false, not, ◌
 use Rattle.protocol.specs.Bytes.{pick, same, put}
 use Rattle.protocol.specs.Ids.{Dialect, FAIL}
 use Rattle.protocol.specs.Records.{id_at, stat_at, stat2_at, dent_at, dent2_at}
-use Rattle.boundary.specs.Crossing.{Crossed, crossed}
+use Rattle.boundary.specs.Crossing.{Crossed}
 use Rattle.boundary.specs.Told.{reply_bytes}
 use Rattle.format_record.specs.Told.{stat_of, stat2_of}
 use Rattle.ids.specs.Ids.{dialect_of}

@@ -4,7 +4,7 @@ use mathlib.Core.Bool.{Bool, true, false, ◌&&◌, not}
 use mathlib.Core.List.{List}
 use mathlib.Core.Logic.{◌⊎◌, inl, inr}
 use mathlib.Core.Option.{Option, none, some}
-use mathlib.Core.Path.{◌≡◌, refl, sym, ap, subst, ◌∙◌}
+use mathlib.Core.Path.{◌≡◌, refl, ap, ◌∙◌}
 use native.Mathlib.Omega.{arith}
 use lib.Dec.{eqb}
 use lib.ListN.{length}
@@ -25,7 +25,7 @@ use Rattle.session.specs.declared.Session.{Session}
 use Rattle.session.proofs.Turns.{Frame, frame_of}
 use Rattle.boundary.specs.Crossing.{call_numbered, request_numbered, unknown_call, cross_start}
 use Rattle.boundary.specs.Told.{out_size, reply_number}
-use Rattle.boundary.proofs.Reports.{NarrowRefusal, lets, by_number, by_feature, request-narrow}
+use Rattle.boundary.proofs.Reports.{NarrowRefusal, lets, by_number, by_feature}
 use Rattle.boundary_misuse.specs.Misuse.{start, call_of}
 use Rattle.boundary_misuse.proofs.Known.{seen_of}
 use Rattle.boundary_misuse.proofs.Table.{Comes, numbered-narrow, behind, begins, calls}

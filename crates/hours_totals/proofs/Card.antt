@@ -1,8 +1,8 @@
 -- The card of the exported functions, from that of the session with totals: a push start outside the hours is 25 and leaves all as it was, and every other event is
 -- one of the session with totals.
 -- Assumes nothing.
-use Prim.Native.Nat.{ℕ, ◌*◌, ◌/◌, ◌%◌, ◌≤◌, ◌<◌, ◌^◌}
-use mathlib.Core.Bool.{Bool, true, false, true≢false, ◌&&◌, ◌||◌, not, and-eq-true_iff}
+use Prim.Native.Nat.{ℕ, ◌/◌, ◌%◌, ◌<◌}
+use mathlib.Core.Bool.{Bool, true, false, true≢false, ◌&&◌, not, and-eq-true_iff}
 use mathlib.Core.List.{List, [], ◌∷◌, ◌++◌}
 use mathlib.Core.Logic.{◌⊎◌, inl, inr}
 use mathlib.Core.Option.{Option, none, some}
@@ -12,7 +12,7 @@ use borrow.Author.Tests.{eq-eqb, ne_eqb, eqb-true, eqb-false, ltb-true}
 use lib.Dec.{eqb, ltb}
 use lib.ListN.{length, take, drop, take-append-drop, length-append, length-drop}
 use lib.Seq.{take_at, drop_at}
-use Rattle.protocol.specs.Answers.{Answer, refused, missing}
+use Rattle.protocol.specs.Answers.{Answer, refused}
 use Rattle.protocol.specs.Bytes.{pick, put}
 use Rattle.protocol.specs.Hours.{Hours, lets}
 use Rattle.protocol.specs.Refusal.{or_else, refuse, is_none, closed_hours}
@@ -20,26 +20,25 @@ use Rattle.protocol.proofs.Bodies.{pick-cases}
 use Rattle.protocol.proofs.Bytes.{put-length}
 use Rattle.record.specs.Record.{word_of}
 use Rattle.record.proofs.States.{above, first}
-use Rattle.recv_buf.specs.RecvBuf.{cursor, held_bytes}
 use Rattle.boundary.specs.Crossing.{Crossed, OpenCrossed}
 use Rattle.boundary.specs.Heard.{answer_heard, heard}
-use Rattle.boundary.specs.Told.{reply_number, reply_bytes, out_size}
+use Rattle.boundary.specs.Told.{reply_number, reply_bytes}
 use Rattle.boundary.proofs.Reports.{NarrowRefusal, lets as lets_in_lem, by_number, by_feature}
-use Rattle.boundary_misuse.specs.Claim.{heard_of, Answers, follow}
+use Rattle.boundary_misuse.specs.Claim.{heard_of, follow}
 use Rattle.boundary_misuse.specs.Misuse.{Act, start, report, has_read, wrote, fault, Event, Wide, AllWide, acted_by, done_by, Seen, opened, call_of, refusal}
 use Rattle.boundary_misuse.proofs.Table.{table-narrow}
 use Rattle.hours.specs.Settings.{hours_size, hours_bytes_in, is_hours}
 use Rattle.hours.specs.Slots.{hours_of}
-use Rattle.totals.specs.Card.{total_by, Sums, no_sums, adds, sums_after, Shows, passes, pushes, closed_to, refused_by, count_in, AnswersBy, EveryMoment}
+use Rattle.totals.specs.Card.{total_by, Sums, no_sums, adds, sums_after, Shows, passes, pushes, closed_to, refused_by, AnswersBy, EveryMoment}
 use Rattle.totals.specs.Crossing.{record_size, overflowed, refuses, total_open}
 use Rattle.totals.specs.System.{total_functions}
 use Rattle.totals.proofs.Beside.{counted-at}
 use Rattle.totals.proofs.Card.{never_closed, refuses-low, opened-length, card}
 use Rattle.totals.proofs.Claim.{total-tells}
 use Rattle.hours_totals.specs.Claim.{hours_lent, TimedCard}
-use Rattle.hours_totals.specs.Crossing.{timed_size, hours_at, beside, closed_reply, closed_now, starts_push, on_timed, open_timed, timed_open, timed_start, timed_read, timed_wrote, timed_fault}
+use Rattle.hours_totals.specs.Crossing.{timed_size, hours_at, beside, closed_reply, closed_now, starts_push, timed_open, timed_start, timed_read, timed_wrote, timed_fault}
 use Rattle.hours_totals.specs.System.{timed_functions}
-use Rattle.hours_totals.proofs.Steps.{front_length, front-word, inner-length, front-after, behind-after}
+use Rattle.hours_totals.proofs.Steps.{front-word, inner-length, front-after, behind-after}
 
 -- the calls numbered 7 and 8 push
 push_called : (a b : ℕ) (p : List ℕ) (n : ℕ) → pushes (call_of n a b p) ≡ starts_push n

@@ -8,14 +8,13 @@ use native.Mathlib.Omega.{arith}
 use lib.ListN.{length, take, replicate, length-drop, length-take}
 use lib.Seq.{slice}
 use Rattle.protocol.specs.Answers.{closed}
-use Rattle.protocol.specs.Reader.{accepted, plain_writes}
+use Rattle.protocol.specs.Reader.{accepted}
 use Rattle.protocol.proofs.Bodies.{pick-cases}
 use Rattle.id_table.specs.Settings.{settings_of}
-use Rattle.record.specs.Record.{size}
 use Rattle.recv_buf.specs.RecvBuf.{cursor, sound, held_bytes}
 use Rattle.session.specs.Demand3.{unbounded, below, Claim}
 use Rattle.session.specs.EveryHost.{EveryHost}
-use Rattle.session.specs.Gate.{timed, gated}
+use Rattle.session.specs.Gate.{gated}
 use Rattle.session.specs.Host.{Host}
 use Rattle.session.proofs.Demand3.{claimed}
 use Rattle.session_layer.proofs.Claims.{narrower, carried}
@@ -23,7 +22,7 @@ use Rattle.session_reads.specs.Counted.{EveryRead, OpensEmpty, SideReads}
 use Rattle.session_reads.proofs.Claims.{every_read, side_reads}
 use Rattle.boundary.specs.Boundary.{boundary}
 use Rattle.boundary.proofs.Demand3.{every_host}
-use Rattle.totals.specs.Crossing.{record_size, limit}
+use Rattle.totals.specs.Crossing.{limit}
 use Rattle.totals.proofs.Consumed.{open_held}
 use Rattle.hours_totals.specs.System.{timed_totals}
 use Rattle.hours_totals.proofs.Layer.{TimedKeeps, timed-around}

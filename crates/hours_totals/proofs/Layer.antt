@@ -1,26 +1,25 @@
 -- The exported functions do what the session behind the gate does: so they are a layer around it.
 -- Assumes nothing.
 use Prim.Native.Nat.{ℕ, ◌+◌, ◌*◌, ◌≤◌, ◌<◌}
-use mathlib.Core.Bool.{Bool, true, false, ◌&&◌, ◌||◌, not}
-use mathlib.Core.List.{List, [], ◌++◌}
-use mathlib.Core.Option.{Option}
+use mathlib.Core.Bool.{Bool, true, false, ◌&&◌, not}
+use mathlib.Core.List.{List, ◌++◌}
 use mathlib.Core.Path.{◌≡◌, refl, sym, ap, ◌∙◌, subst}
 use native.Mathlib.Omega.{arith}
 use borrow.Author.Tests.{eq-eqb, le-leb, eqb-true}
 use lib.Dec.{eqb}
 use lib.ListN.{length, take, drop, length-append}
 use lib.Seq.{take_at, drop_at, length-take-le}
-use Rattle.protocol.specs.Answers.{Answer, done, refused}
+use Rattle.protocol.specs.Answers.{Answer, refused}
 use Rattle.protocol.specs.Bytes.{pick, put, number_at}
-use Rattle.protocol.specs.Calls.{Version, v1, v2, Call, call, next_entry, next_chunk, Made}
-use Rattle.protocol.specs.Hours.{Hours, Kept, lets}
+use Rattle.protocol.specs.Calls.{v1, v2, Call, call, next_entry, next_chunk, Made}
+use Rattle.protocol.specs.Hours.{Kept, lets}
 use Rattle.protocol.specs.Messages.{stat, sta2, list, lis2, recv, ask, rcv2, send, snd2, chunk, quit}
 use Rattle.protocol.specs.Messages as M
 use Rattle.protocol.specs.Refusal.{is_push, closed_hours, outside}
 use Rattle.protocol.proofs.Bodies.{pick-cases}
 use Rattle.protocol.proofs.Bytes.{put-length}
-use Rattle.id_table.specs.Settings.{settings_of, lent_in}
-use Rattle.hours.specs.Settings.{hours_bytes_in, settings_with, is_hours}
+use Rattle.id_table.specs.Settings.{settings_of}
+use Rattle.hours.specs.Settings.{settings_with}
 use Rattle.hours.specs.Slots.{hours_bytes, hours_of}
 use Rattle.hours.proofs.Laws.{hours-files}
 use Rattle.hours.proofs.Slots.{slots}
@@ -29,19 +28,19 @@ use Rattle.record.specs.Record.{word_of, size}
 use Rattle.session.specs.Demand3.{Opening}
 use Rattle.session.specs.Gate as G
 use Rattle.session.specs.Gate.{Timed, timed, keeping, gated_start, gate, gated}
-use Rattle.session.specs.Host.{Show, told, read, Spare, Step, lent_of}
+use Rattle.session.specs.Host.{Show, told, read, Spare, Step}
 use Rattle.session.proofs.Buf.{number-in}
-use Rattle.session_layer.specs.Layer.{Account, at_opening, starting, under, Layer, Around}
-use Rattle.boundary.specs.Boundary.{call_number, end_kind, end_code, step_of, recorded, boundary}
+use Rattle.session_layer.specs.Layer.{Account, starting, under, Around}
+use Rattle.boundary.specs.Boundary.{call_number, end_kind, end_code, recorded, boundary}
 use Rattle.boundary.specs.Crossing.{Crossed, OpenCrossed, cross_open}
 use Rattle.boundary.specs.Heard.{answer_heard, heard}
 use Rattle.boundary.specs.Told.{reply_number, reply_bytes, out_size}
-use Rattle.totals.specs.Crossing.{record_size, limit, refuses, counted, total_open, total_read, total_wrote, total_fault}
-use Rattle.totals.specs.System.{start_by, total_functions, engine_by}
+use Rattle.totals.specs.Crossing.{record_size, limit, refuses, total_open, total_read, total_wrote, total_fault}
+use Rattle.totals.specs.System.{start_by, total_functions}
 use Rattle.totals.proofs.Beside.{counted-at}
 use Rattle.totals.proofs.Crosses.{Tells, Crosses, Follows, engine-layer}
-use Rattle.totals.proofs.Layer.{Keeps, here_size, here_word, totals-follow, start-number, same_number, opened-keeps}
-use Rattle.hours_totals.specs.Crossing.{timed_size, hours_at, beside, closed_reply, closed_now, starts_push, on_timed, open_timed, timed_open, timed_start, timed_read, timed_wrote, timed_fault}
+use Rattle.totals.proofs.Layer.{Keeps, here_size, totals-follow, start-number, same_number, opened-keeps}
+use Rattle.hours_totals.specs.Crossing.{timed_size, hours_at, beside, closed_reply, closed_now, starts_push, on_timed, timed_open, timed_start, timed_read, timed_wrote, timed_fault}
 use Rattle.hours_totals.specs.System.{timed_functions, timed_totals}
 
 -- ---- the relation

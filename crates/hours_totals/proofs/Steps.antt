@@ -1,16 +1,16 @@
 -- A step on any record with hours is that of the session with totals, the hours behind it, or turned away; what is refused of any record, and what its reply tells.
 -- Assumes nothing.
-use Prim.Native.Nat.{ℕ, ◌+◌, ◌*◌, ◌%◌, ◌≤◌, ◌<◌, ◌^◌}
-use mathlib.Core.Bool.{Bool, true, false, ◌&&◌, ◌||◌, not}
-use mathlib.Core.List.{List, [], ◌∷◌, ◌++◌, map}
+use Prim.Native.Nat.{ℕ, ◌+◌, ◌*◌, ◌%◌, ◌≤◌, ◌<◌}
+use mathlib.Core.Bool.{◌&&◌, not}
+use mathlib.Core.List.{List, ◌++◌}
 use mathlib.Core.Logic.{inl, inr}
 use mathlib.Core.Path.{◌≡◌, refl, sym, ap, ◌∙◌}
 use native.Mathlib.Omega.{arith}
-use borrow.Author.Tests.{eqb-true, eqb-false, le-leb}
+use borrow.Author.Tests.{eqb-true, le-leb}
 use lib.Dec.{eqb}
 use lib.ListN.{length, take, drop, take-append-drop}
 use lib.Seq.{take_at, drop_at, length-take-le}
-use Rattle.protocol.specs.Bytes.{Bytes, pick, put, number_at}
+use Rattle.protocol.specs.Bytes.{Bytes, put, number_at}
 use Rattle.protocol.specs.Hours.{lets}
 use Rattle.protocol.proofs.Bodies.{pick-cases}
 use Rattle.protocol.proofs.Bytes.{put-length}
@@ -25,7 +25,7 @@ use Rattle.boundary_misuse.specs.Settled.{settled, SettledClaim}
 use Rattle.boundary_parts.specs.Bounds.{told_part, named, InBounds, PartsInside}
 use Rattle.totals.specs.Card.{total_by, count_in}
 use Rattle.totals.specs.Claim.{IsRefusedBy, CountTold}
-use Rattle.totals.specs.Crossing.{record_size, reads_of, count_at, counted, refuses, wrong_length, total_start, total_read, total_wrote, total_fault}
+use Rattle.totals.specs.Crossing.{record_size, reads_of, counted, refuses, wrong_length, total_start}
 use Rattle.totals.specs.System.{total_functions}
 use Rattle.totals.proofs.Beside.{counted-at}
 use Rattle.totals.proofs.Claim as T

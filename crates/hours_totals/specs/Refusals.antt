@@ -7,7 +7,7 @@ use Rattle.protocol.specs.Answers.{Answer, refused, missing}
 use Rattle.protocol.specs.Bytes.{ascii}
 use Rattle.protocol.specs.Calls.{Call}
 use Rattle.protocol.specs.Fact.{Fact}
-use Rattle.protocol.specs.Hours.{Span, Hours}
+use Rattle.protocol.specs.Hours.{Hours}
 use Rattle.protocol.specs.Ids.{published}
 use Rattle.protocol.specs.Refusal.{refusal_at}
 use Rattle.session.specs.Host.{Show, told, read, write_rx}

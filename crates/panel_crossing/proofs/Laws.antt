@@ -13,7 +13,6 @@ use Rattle.protocol.specs.Bytes.{pick, bytes_of, over, put}
 use Rattle.protocol.specs.Ids.{Dialect}
 use Rattle.protocol.specs.Requests.{Read, read_request}
 use Rattle.protocol.proofs.Bytes.{length-bytes_of}
-use Rattle.boundary.specs.Heard.{at}
 use Rattle.boundary.specs.Told.{out_size}
 use Rattle.id_table.specs.Settings.{lent_in}
 use Rattle.id_table.specs.declared.Lent.{Lent}
@@ -21,8 +20,7 @@ use Rattle.ids.specs.Ids.{number_of, dialect_of}
 use Rattle.ids.specs.declared.Ids.{Ids}
 use Rattle.panel_reply.specs.Replies as P
 use Rattle.panel_reply.specs.Replies.{behind_id, reply_id, bytes_of_reply, is_taken, spoken, written}
-use Rattle.panel_writer.specs.Meaning.{meant, said}
-use Rattle.panel_writer.specs.declared.Reply.{Reply}
+use Rattle.panel_writer.specs.Meaning.{said}
 use Rattle.record.specs.Record.{words}
 use Rattle.request.specs.Meaning as Heard
 use Rattle.request.specs.declared.Request.{Request}

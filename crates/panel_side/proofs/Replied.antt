@@ -9,9 +9,8 @@ use lib.ListN.{length, take, drop, length-append}
 use lib.Seq.{take-append-le, take-append_seam, drop_at}
 use Rattle.protocol.specs.Answers as A
 use Rattle.protocol.specs.Bytes.{same, number_at}
-use Rattle.protocol.specs.Calls.{Version, v1, v2, Call, call}
+use Rattle.protocol.specs.Calls.{Version, v1, v2, Call}
 use Rattle.protocol.specs.Ids.{Id, Dialect, Sound, STAT, STA2, DENT, DNT2, DATA, DONE, OKAY, FAIL}
-use Rattle.protocol.specs.Messages as Q
 use Rattle.protocol.specs.Messages.{word}
 use Rattle.protocol.specs.Reader.{Prog, answer, skip, ended, plain, Way, way, taking, next, next_on, among_ways, failing, drain, Config, written, stat_ways, stat2_answer, entry_ways, entry_answer, entry_id, entry_length, name_length, chunk_ways, okay_ways}
 use Rattle.protocol.specs.Records.{Stat, Stat2, header_size, id_at, arg_at, stat_at, stat2_at, stat2_body, dent_at, dent2_at}
@@ -20,7 +19,7 @@ use Rattle.protocol_readers.proofs.Needs.{plain-go, drain-none}
 use Rattle.id_table.specs.Settings.{place}
 use Rattle.record.specs.Fields.{unsigned}
 use Rattle.record.proofs.Numbers.{signed_back, unsigned-wide}
-use Rattle.panel_reply.specs.Replies.{Reply, stat, entry, entry2, chunk, fail, stat_fields, stat2_fields, with_length, zeros, behind_id, bytes_of_reply, is_short}
+use Rattle.panel_reply.specs.Replies.{Reply, stat_fields, stat2_fields, with_length, zeros, behind_id, bytes_of_reply, is_short}
 use Rattle.panel_side.specs.Claim.{FitsStat, FitsStat2, Fits}
 use Rattle.panel_side.specs.ReadBack.{stat_reads, stat2_reads, step_reads, chunk_reads, done_reads, BelongsTo, of_stat, of_stat2, of_entry, of_entry2, of_listing_end, of_chunk, of_transfer_end, of_okay, of_fail, read_as, capacity_for}
 

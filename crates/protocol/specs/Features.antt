@@ -1,7 +1,7 @@
 -- The features of a banner: "Find the first "features="; split what follows at each comma or semicolon; present if some piece
 -- equals the name. Absent marker: no." (document 01, features.rs).
 -- Assumes nothing.
-use Rattle.std.specs.Prelude.{ℕ, Bool, true, false, ◌||◌, List, [], ◌∷◌, ◌++◌, eqb, length, take, drop}
+use Rattle.std.specs.Prelude.{ℕ, Bool, false, ◌||◌, List, [], ◌∷◌, ◌++◌, eqb, length, take, drop}
 use Rattle.std.proofs.Math.Option.{Option, none, some}
 use Rattle.protocol.specs.Bytes.{pick, ascii, same}
 

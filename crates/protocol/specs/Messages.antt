@@ -1,6 +1,6 @@
 -- What the host writes: each request as a message, "header and parts", and the pieces it goes out in (document 01, sync.rs).
 -- Assumes nothing.
-use Rattle.std.specs.Prelude.{ℕ, ◌+◌, ◌≤◌, ◌<◌, Bool, true, false, List, [], ◌∷◌, ◌++◌, ◌≡◌, leb, length}
+use Rattle.std.specs.Prelude.{ℕ, ◌+◌, ◌≤◌, ◌<◌, true, false, List, [], ◌∷◌, ◌++◌, ◌≡◌, leb, length}
 use Rattle.protocol.specs.Bytes.{pick, ascii, has, bytes_of}
 use Rattle.protocol.specs.Decimal.{decimal}
 use Rattle.protocol.specs.Flags.{refused_flags}

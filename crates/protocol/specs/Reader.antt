@@ -1,6 +1,6 @@
 -- The plain reader of document 01: what each call comes to on the unread bytes U, as needs and drops.
 -- Assumes nothing.
-use Rattle.std.specs.Prelude.{ℕ, zero, suc, ◌+◌, ◌-◌, min, Bool, true, false, ◌||◌, List, [], ◌∷◌, ◌++◌, ◌≡◌, eqb, ltb, length, take, drop}
+use Rattle.std.specs.Prelude.{ℕ, zero, suc, ◌+◌, ◌-◌, min, Bool, true, false, ◌||◌, List, [], ◌∷◌, ◌++◌, eqb, ltb, length, take, drop}
 use Rattle.std.proofs.Math.Option.{Option, none, some}
 use Rattle.protocol.specs.Answers as A
 use Rattle.protocol.specs.Answers.{Answer, End, closed, error}
@@ -9,7 +9,7 @@ use Rattle.protocol.specs.Calls.{Version, v1, v2, Call, call, next_entry, next_c
 use Rattle.protocol.specs.Hours.{Hours}
 use Rattle.protocol.specs.Refusal.{Setting, refusal, turned, closed_hours}
 use Rattle.protocol.specs.Ids.{Id, Dialect, STAT, STA2, DATA, DONE, OKAY, FAIL, DENT, DNT2}
-use Rattle.protocol.specs.Messages.{PathOnly, stat, sta2, list, lis2, recv, Request, ask, rcv2, send, snd2, chunk, done, quit}
+use Rattle.protocol.specs.Messages.{PathOnly, stat, sta2, list, lis2, recv, ask, rcv2, send, snd2, chunk, done, quit}
 use Rattle.protocol.specs.Records.{id_at, arg_at, header_size, stat_size, stat2_size, dent_size, dent2_size, stat_at, stat2_at, dent_at, dent2_at, Stat2}
 
 -- A reader's program. `need n k`: need(n), then go on, with the first n unread bytes in view. `skip n p`: drop n, go on.

@@ -1,6 +1,6 @@
 -- What a call writes that is not refused: messages that the request reader reads back ("What the host writes is read back as meant").
 -- Assumes nothing.
-use Rattle.std.specs.Prelude.{ℕ, ◌<◌, List, [], ◌∷◌}
+use Rattle.std.specs.Prelude.{◌<◌, List, [], ◌∷◌}
 use Rattle.protocol.specs.Calls.{Call, call, next_entry, next_chunk}
 use Rattle.protocol.specs.Ids.{Dialect}
 use Rattle.protocol.specs.Messages.{Request, ask, rcv2, send, snd2, chunk, done, quit, HostWrites}

@@ -1,8 +1,8 @@
 -- The facts of `specs/Compared.antt` hold. Assumes nothing.
 use Prim.Native.Nat.{ℕ, ◌<◌}
 use mathlib.Core.Bool.{Bool, true, false, true≢false}
-use mathlib.Core.List.{List, [], ◌∷◌}
-use mathlib.Core.Logic.{◌⊎◌, inl, inr}
+use mathlib.Core.List.{[], ◌∷◌}
+use mathlib.Core.Logic.{inl, inr}
 use mathlib.Core.Path.{◌≡◌, refl, sym, ap, ◌∙◌}
 use native.Mathlib.Omega.{arith}
 use lib.Dec.{eqb}
@@ -10,7 +10,7 @@ use lib.ListN.{length, take, get_or}
 use Rattle.protocol.specs.Answers.{Answer, number, bytes, done, too_large}
 use Rattle.protocol.specs.Bytes.{ascii}
 use Rattle.protocol_readers.specs.Compared.{Compared}
-use Rattle.protocol_readers.specs.Wider.{Stops, Unstopped, Cut, Like}
+use Rattle.protocol_readers.specs.Wider.{Stops, Cut, Like}
 
 -- two things that a test tells apart are not the same
 apart_by : {A : Type 0} (test : A → Bool) (x y : A) → test x ≡ true → test y ≡ false → x ≡ y → ⊥

@@ -8,7 +8,7 @@ use mathlib.Core.Bool.{Bool, true, false, true≢false}
 use mathlib.Core.List.{List, [], ◌∷◌}
 use mathlib.Core.Logic.{◌⊎◌, inl, inr}
 use mathlib.Core.Option.{Option, none, some}
-use mathlib.Core.Path.{◌≡◌, refl, sym, ap, ◌∙◌, subst}
+use mathlib.Core.Path.{◌≡◌, refl, subst}
 use native.Mathlib.Omega.{arith}
 use borrow.Author.Tests.{ltb-true, ltb-false}
 use lib.Dec.{eqb, ltb}
@@ -19,10 +19,10 @@ use Rattle.protocol.specs.Bytes.{pick, same}
 use Rattle.protocol.specs.Calls.{Version, v1, v2, Call, call, next_entry, next_chunk}
 use Rattle.protocol.specs.Ids.{Dialect, FAIL}
 use Rattle.protocol.specs.Messages.{stat, sta2, list, lis2, recv, ask, rcv2, send, snd2, chunk, done, quit}
-use Rattle.protocol.specs.Reader.{Prog, answer, need, skip, Result, ended, short, plain, drain, failing, Way, among_ways, next_on, next, lost, taking, stat_answer, stat_ways, name_length, entry_answer, entry_ways, chunk_ways, okay_ways, Config, Report, accepted, broke, written, push_broke, write_broke, on_report, unless_refused, program, end_of, Reply, reply, plain_call}
+use Rattle.protocol.specs.Reader.{Prog, answer, need, skip, Result, ended, short, plain, drain, failing, Way, among_ways, next_on, next, taking, stat_answer, stat_ways, name_length, entry_answer, entry_ways, chunk_ways, okay_ways, Config, Report, accepted, broke, written, push_broke, write_broke, on_report, unless_refused, program, end_of, reply}
 use Rattle.protocol.specs.Records.{id_at, arg_at, header_size, stat_size, stat2_size, dent_size, dent2_size}
 use Rattle.protocol.specs.Refusal.{refusal}
-use Rattle.protocol_reads.specs.Reads.{Tally, still, one_more, reach, then, reads_of, call_reads, Positive, OffLink, Ceiling, ReadsCeiling}
+use Rattle.protocol_reads.specs.Reads.{Tally, still, one_more, reach, then, reads_of, call_reads, Positive, OffLink, ReadsCeiling}
 
 -- ---- programs that leave at most a header
 

@@ -11,7 +11,7 @@ use Rattle.protocol.specs.Fact.{Fact}
 use Rattle.protocol.specs.Hours.{Hours}
 use Rattle.protocol.specs.Ids.{published}
 use Rattle.protocol.specs.Messages.{stat, sta2, ask, send, chunk, done, quit}
-use Rattle.protocol.specs.Reader.{Config, Report, accepted, broke, config_after, plain_call, plain_answers}
+use Rattle.protocol.specs.Reader.{Config, accepted, broke, config_after, plain_call, plain_answers}
 use Rattle.protocol_reads.specs.Reads.{call_reads, made_reads, plain_reads, Positive, by_link, Ceiling}
 
 abbrev config : ℕ → Config

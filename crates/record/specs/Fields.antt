@@ -8,7 +8,6 @@
 use Rattle.std.specs.Prelude.{ℕ, zero, suc, ◌+◌, ◌*◌, ◌-◌, ◌/◌, ◌%◌, Bool, true, false, ◌&&◌, ◌||◌, List, [], ◌∷◌, ◌++◌, map, eqb, ltb, leb, ℤ, pos, negsuc, get_or}
 use Rattle.protocol.specs.Bytes.{signed}
 use Rattle.features.specs.Meaning.{listed}
-use Rattle.features.specs.declared.Features.{Features}
 use Rattle.format_flags.specs.declared.FileMode.{FileMode}
 use Rattle.format_flags.specs.declared.SyncFlags.{SyncFlags}
 use Rattle.format_record.specs.declared.DentV1.{DentV1}

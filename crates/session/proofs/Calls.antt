@@ -26,7 +26,7 @@ use Rattle.session.specs.declared.Want.TheVariants as W
 use Rattle.session.specs.Calls.{setting_of}
 use Rattle.session.specs.Core.{request_of, core}
 use Rattle.session.specs.Faithful.{Composed, meets_header}
-use Rattle.session.specs.Host.{Host, World, enough, run_call, Entry}
+use Rattle.session.specs.Host.{Host, World, enough, run_call}
 use Rattle.session.specs.Phases.{wants}
 use Rattle.session.specs.Reports.{write_fault}
 use Rattle.session.specs.State.{dialect_in, St, beside, begun, Good}

@@ -1,7 +1,7 @@
 -- Demand 3: of any system whose logs are faithful against every host, by comparing the two plain readers; and of the session's own
 -- steps, whose log is faithful from the opening.
 -- Assumes nothing.
-use Prim.Native.Nat.{ℕ, ◌+◌, ◌≤◌, ◌<◌}
+use Prim.Native.Nat.{ℕ, ◌≤◌, ◌<◌}
 use mathlib.Core.List.{List, [], ◌++◌}
 use mathlib.Core.Option.{Option}
 use mathlib.Core.Path.{◌≡◌, refl, sym, ap, ◌∙◌, subst}

@@ -1,6 +1,6 @@
 -- What follows a call's writes: an answer, a header to read, the close; and what a fault of a write comes to.
 -- Assumes nothing.
-use Prim.Native.Nat.{ℕ, zero, suc, ◌+◌, ◌≤◌, ◌<◌}
+use Prim.Native.Nat.{ℕ, zero, suc, ◌≤◌, ◌<◌}
 use mathlib.Core.Bool.{Bool, true, false}
 use mathlib.Core.List.{List, [], ◌∷◌, ◌++◌}
 use mathlib.Core.Path.{◌≡◌, refl, sym, ap, ◌∙◌, subst}
@@ -10,7 +10,6 @@ use lib.Seq.{take-append_seam}
 use Rattle.protocol.specs.Answers as P
 use Rattle.protocol.specs.Answers.{End, closed, error}
 use Rattle.protocol.specs.Bytes.{pick}
-use Rattle.protocol.specs.Messages.{pieces}
 use Rattle.protocol.specs.Reader.{Prog, answer, Result, plain, Report, accepted, broke, closing, written, push_broke, write_broke, on_report, program, end_of, is_quit, config_after}
 use Rattle.request.specs.declared.Request.{Request}
 use Rattle.ids.specs.Ids.{dialect_of}

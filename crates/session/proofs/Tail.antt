@@ -24,7 +24,7 @@ use Rattle.session.specs.Reports.{read_in}
 use Rattle.session.specs.State.{St, st, Out, out, answering, beside, half, Good}
 use Rattle.session.specs.Steps.{reading, asked, over, on_hop, turned, followed, turn_of, hopped, pumped, read_on}
 use Rattle.session.specs.Sends.{tidied}
-use Rattle.session.proofs.Buf.{good-tidied, held-tidied, sound-of}
+use Rattle.session.proofs.Buf.{held-tidied, sound-of}
 use Rattle.session.proofs.Turns.{held, Frame, Reached, Nearer, Waits, wanted, count, fine, good-turned, came, good-came}
 
 -- compaction: tail behind the held bytes

@@ -3,7 +3,7 @@
 use Prim.Native.Nat.{ℕ, zero, suc, ◌+◌, ◌-◌, ◌≤◌, ◌<◌, min}
 use mathlib.Core.Bool.{Bool, true, false, ◌&&◌}
 use mathlib.Core.List.{List, [], ◌++◌, append_assoc}
-use mathlib.Core.Path.{◌≡◌, refl, sym, ap, ◌∙◌, subst}
+use mathlib.Core.Path.{◌≡◌, refl, sym, ap, ◌∙◌}
 use native.Mathlib.Decide.{dec_le}
 use native.Mathlib.Omega.{arith}
 use borrow.Author.Tests.{le-ltb, le-leb, lt-leb, ltb-true, ltb-false, ne_eqb}
@@ -14,7 +14,6 @@ use Rattle.protocol.specs.Bytes.{pick, same, over as laid}
 use Rattle.protocol.specs.Ids.{Dialect, STAT, STA2, DATA, DONE, OKAY, FAIL, DENT, DNT2}
 use Rattle.protocol.specs.Reader.{Result}
 use Rattle.protocol.specs.Records.{id_at, arg_at}
-use Rattle.recv_buf.specs.RecvBuf.{held_bytes, held_count}
 use Rattle.recv_buf.proofs.Laws.{held-length}
 use Rattle.session.specs.declared.Answer.TheVariants as A
 use Rattle.session.specs.declared.Pending.{Pending}
@@ -33,7 +32,7 @@ use Rattle.session.specs.Reports.{read_in}
 use Rattle.session.specs.State.{dialect_in, St, st, Out, out, answering, beside, half, Good}
 use Rattle.session.specs.Steps.{reading, asked, kept, over, on_hop, turned, followed, turn_of, hopped, pumped, read_on}
 use Rattle.session.specs.Sends.{tidied}
-use Rattle.session.proofs.Buf.{id-in, arg-in, good-tidied, held-tidied, sound-of, view, held-dropped, held-came}
+use Rattle.session.proofs.Buf.{id-in, arg-in, held-tidied, sound-of, view, held-dropped, held-came}
 use Rattle.session.proofs.Turns.{held, Frame, Reached, Nearer, Waits, wanted, count, fine, good-turned, came, good-came}
 
 -- ---- what the message buffer will be: at a phase, with the unread bytes u

@@ -38,7 +38,7 @@ use Rattle.session.specs.declared.Version.{Version}
 use Rattle.session.specs.declared.Version.TheVariants.{V1, V2}
 use Rattle.session.specs.declared.Want.{Want}
 use Rattle.session.specs.declared.Want.TheVariants as W
-use Rattle.session.specs.Phases.{wants, stopping, going, strange, proceed, headed, stat_v2_answer, drained, turn_at}
+use Rattle.session.specs.Phases.{wants, stopping, strange, proceed, headed, stat_v2_answer, drained, turn_at}
 use Rattle.session.specs.Reports.{read_in, read_at}
 use Rattle.session.specs.Shown.{part_of, paper}
 use Rattle.session.specs.State as S

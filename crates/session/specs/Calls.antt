@@ -1,6 +1,6 @@
 -- Opening a session and starting a call: the refusals in their order (1, 2; then 3, 6, 4, 8, 7, 9, 10: document 02, [6]), then the first step.
 -- Assumes nothing.
-use Rattle.std.specs.Prelude.{ℕ, Bool, true, false, List, [], eqb, ltb, length}
+use Rattle.std.specs.Prelude.{ℕ, Bool, true, false, List, eqb, ltb, length}
 use Rattle.std.proofs.Math.Option.{Option, none, some}
 use Rattle.protocol.specs.Answers as P
 use Rattle.protocol.specs.Bytes.{pick}
@@ -16,12 +16,10 @@ use Rattle.session.specs.declared.Answer.TheVariants as A
 use Rattle.session.specs.declared.Pending.{Pending}
 use Rattle.session.specs.declared.Pending.TheVariants.{Idle, Reading, Writing, Closing}
 use Rattle.session.specs.declared.Phase.TheVariants.{Header}
-use Rattle.session.specs.declared.Reply.TheVariants.{Told}
 use Rattle.session.specs.declared.Session.{Session}
-use Rattle.session.specs.declared.Stepped.{Stepped}
 use Rattle.session.specs.declared.Version.{Version}
 use Rattle.session.specs.declared.Want.TheVariants as W
-use Rattle.session.specs.State.{dialect_in, St, st, Out, out, beside, stepped, begun, refusing}
+use Rattle.session.specs.State.{dialect_in, St, st, Out, out, beside, begun, refusing}
 use Rattle.session.specs.Steps.{read_on}
 use Rattle.session.specs.Sends.{tidied, carried, sent}
 

@@ -10,8 +10,6 @@ use Rattle.protocol.specs.Features.{features_of}
 use Rattle.protocol.specs.Messages.{PathOnly, stat, sta2, list, lis2, recv, ask, rcv2, send, snd2, chunk, done, quit}
 use Rattle.protocol.specs.Messages as M
 use Rattle.features.specs.declared.Features.{Features}
-use Rattle.format_flags.specs.declared.FileMode.{FileMode}
-use Rattle.format_flags.specs.declared.SyncFlags.{SyncFlags}
 use Rattle.ids.specs.Ids.{ids_of}
 use Rattle.request_piece.specs.Pieces.{by_value}
 use Rattle.recv_buf.specs.RecvBuf.{held_bytes}

@@ -1,7 +1,7 @@
 -- Facts on logs: one that the claim of every host takes, and logs with one thing wrong, none of which it takes. A stat of "/t", with a capacity
 -- of 16, of a panel that answers at once; and pieces, windows and messages by themselves. By document 01's "The plain reader" and sync.rs.
 -- Assumes nothing.
-use Rattle.std.specs.Prelude.{ℕ, ◌<◌, ◌^◌, true, false, List, [], ◌∷◌, ◌++◌, map, length, take, drop, replicate}
+use Rattle.std.specs.Prelude.{ℕ, ◌<◌, ◌^◌, false, List, [], ◌∷◌, ◌++◌, map, length, take, drop, replicate}
 use Rattle.std.proofs.Math.Option as Option
 use Rattle.protocol.specs.Answers as A
 use Rattle.protocol.specs.Answers.{Answer, End, closed, error}
@@ -12,7 +12,7 @@ use Rattle.protocol.specs.Ids.{published}
 use Rattle.protocol.specs.Messages.{ask, stat, sta2, list, lis2, recv, rcv2, send, snd2, chunk, done, quit}
 use Rattle.protocol.specs.Reader.{Config, accepted, broke}
 use Rattle.session.specs.Demand3.{Coded, CodedReport, AllWide}
-use Rattle.session.specs.Faithful.{AllAtNeeds, Accepted, Placed, Composed, AsReader, Faithful}
+use Rattle.session.specs.Faithful.{AllAtNeeds, Accepted, Composed, AsReader, Faithful}
 use Rattle.session.specs.Host.{Ask, Broken, Stop, Entry}
 
 abbrev config : Config

@@ -1,7 +1,7 @@
 -- Hours around a system that does not look at the moment (document 02, [10]): the session keeps the hours it opened with, and a push start outside
 -- them is 25 where the session inside would not refuse it.
 -- Assumes nothing.
-use Rattle.std.specs.Prelude.{ℕ, Bool, true, false, ◌&&◌, not, List, eqb}
+use Rattle.std.specs.Prelude.{ℕ, Bool, false, ◌&&◌, not, List, eqb}
 use Rattle.std.proofs.Math.Option.{Option}
 use Rattle.protocol.specs.Answers as A
 use Rattle.protocol.specs.Answers.{number, callers}

@@ -1,6 +1,6 @@
 -- The phases: how many bytes each wants, and the turn it takes once they are held.
 -- Assumes nothing.
-use Rattle.std.specs.Prelude.{ℕ, ◌+◌, ◌-◌, min, Bool, true, false, List, [], ◌∷◌, eqb, leb, length, get_or, take, drop}
+use Rattle.std.specs.Prelude.{ℕ, ◌+◌, ◌-◌, min, List, eqb, leb, length, get_or, drop}
 use Rattle.protocol.specs.Bytes.{pick, same}
 use Rattle.protocol.specs.Ids.{Id, Dialect, STAT, STA2, DATA, DONE, OKAY, FAIL, DENT, DNT2}
 use Rattle.protocol.specs.Records.{id_at, arg_at, stat_at, dent_at, stat2_at, dent2_at, Stat2}
@@ -9,7 +9,6 @@ use Rattle.session.specs.declared.Answer.{Answer}
 use Rattle.session.specs.declared.Answer.TheVariants as A
 use Rattle.session.specs.declared.Phase.{Phase}
 use Rattle.session.specs.declared.Phase.TheVariants.{Header, Stat, Entry, Last, NameV1, NameV2, Body, Text, Rest}
-use Rattle.session.specs.declared.Then.{Then}
 use Rattle.session.specs.declared.Then.TheVariants.{Stop, Go}
 use Rattle.session.specs.declared.Turn.{Turn}
 use Rattle.session.specs.declared.Version.{Version}

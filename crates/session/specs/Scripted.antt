@@ -2,7 +2,7 @@
 -- for byte, reports it, and writes down each read, piece, fault and close; "a call ends or says "read into this window" or "write this piece";
 -- the host reports and continues" (document 01).
 -- Assumes nothing.
-use Rattle.std.specs.Prelude.{ℕ, List, [], ◌∷◌, ◌++◌, eqb, length, drop}
+use Rattle.std.specs.Prelude.{ℕ, List, [], ◌∷◌, eqb, length, drop}
 use Rattle.std.proofs.Math.Option.{none}
 use Rattle.protocol.specs.Answers as A
 use Rattle.protocol.specs.Answers.{Answer, End, closed, error}

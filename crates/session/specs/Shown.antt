@@ -1,6 +1,6 @@
 -- What an answer of the code says: document 01's number and values for each case.
 -- Assumes nothing.
-use Rattle.std.specs.Prelude.{ℕ, ◌+◌, Bool, true, false, List, [], ◌∷◌, leb, length, take, drop}
+use Rattle.std.specs.Prelude.{ℕ, ◌+◌, List, [], ◌∷◌, leb, length, take, drop}
 use Rattle.protocol.specs.Answers as P
 use Rattle.protocol.specs.Bytes.{pick}
 use Rattle.format_record.specs.Told.{told_stat, told_stat2}

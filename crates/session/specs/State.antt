@@ -1,11 +1,10 @@
 -- A session beside its two buffers, and the fields that a step changes.
 -- Assumes nothing.
-use Rattle.std.specs.Prelude.{ℕ, ◌+◌, ◌-◌, ◌≤◌, Bool, true, false, List, ◌≡◌, length}
+use Rattle.std.specs.Prelude.{ℕ, ◌≤◌, true, List, ◌≡◌, length}
 use Rattle.protocol.specs.Ids.{Dialect}
 use Rattle.ids.specs.Ids.{dialect_of}
 use Rattle.recv_buf.specs.declared.RecvBuf.{RecvBuf}
 use Rattle.session.specs.declared.Answer.{Answer}
-use Rattle.session.specs.declared.Answer.TheVariants as A
 use Rattle.session.specs.declared.Pending.{Pending}
 use Rattle.session.specs.declared.Pending.TheVariants.{Idle}
 use Rattle.session.specs.declared.Reply.{Reply}

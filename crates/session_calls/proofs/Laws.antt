@@ -2,19 +2,14 @@
 use Prim.Native.Nat.{ℕ, ◌≤◌, ◌<◌}
 use mathlib.Core.Bool.{false}
 use mathlib.Core.List.{List}
-use mathlib.Core.Path.{◌≡◌, ap, ◌∙◌}
-use native.Mathlib.Omega.{arith}
+use mathlib.Core.Path.{◌≡◌, ◌∙◌}
 use borrow.Author.Tests.{lt-ltb, le-ltb}
 use lib.ListN.{length}
 use Rattle.protocol.specs.Refusal.{request_refusal}
 use Rattle.protocol.specs.Features.{features_of}
-use Rattle.features.specs.Meaning.{listed}
-use Rattle.features.specs.declared.Features.{Features}
 use Rattle.protocol.specs.Ids.{letters}
 use Rattle.ids.specs.Ids.{table_of}
 use Rattle.ids.specs.declared.Ids.{Ids}
-use Rattle.recv_buf.specs.RecvBuf.{empty}
-use Rattle.recv_buf.specs.declared.RecvBuf.{RecvBuf}
 use Rattle.request_refusal.proofs.Laws.{alike}
 use Rattle.request_refusal.specs.Meaning.{checked, setting}
 use Rattle.request_refusal.specs.declared.Check.{Check}
@@ -25,10 +20,9 @@ use Rattle.session.proofs.Buf.{good-tidied}
 use Rattle.session.proofs.Misfit.{guarded-in}
 use Rattle.session.specs.Calls.{fresh, open_refusal, guarded, call_refusal, refusal_of, or_refuse, start_call, entry_call, chunk_call}
 use Rattle.session.specs.Core.{features_from}
-use Rattle.session.specs.State.{St, st, Out, beside, begun, Good}
+use Rattle.session.specs.State.{St, st, beside, begun, Good}
 use Rattle.session.specs.Steps.{read_on}
 use Rattle.session.specs.Sends.{tidied, carried, sent}
-use Rattle.session.specs.declared.Pending.TheVariants.{Idle}
 use Rattle.session.specs.declared.Phase.TheVariants.{Header}
 use Rattle.session.specs.declared.Session.{Session}
 use Rattle.session.specs.declared.Version.{Version}

@@ -1,8 +1,8 @@
 -- Of any system that is faithful against every host, and of demand 3's sides.
 -- Assumes nothing.
-use Prim.Native.Nat.{ℕ, ◌≤◌}
+use Prim.Native.Nat.{ℕ}
 use mathlib.Core.Bool.{Bool, true, false}
-use mathlib.Core.List.{List, [], ◌∷◌, ◌++◌}
+use mathlib.Core.List.{List, [], ◌∷◌}
 use mathlib.Core.Option.{Option, none}
 use mathlib.Core.Path.{◌≡◌, refl, sym, ap, ◌∙◌, subst}
 use native.Mathlib.Omega.{arith}
@@ -13,16 +13,16 @@ use Rattle.protocol.specs.Calls.{Call, Made}
 use Rattle.protocol.specs.Hours.{Hours}
 use Rattle.protocol.specs.Reader.{Config, accepted, config_after, plain_call, plain_made}
 use Rattle.protocol.specs.Refusal.{turned, closed_hours}
-use Rattle.protocol_reads.specs.Reads.{Tally, still, call_reads, made_reads, plain_reads}
+use Rattle.protocol_reads.specs.Reads.{Tally, made_reads, plain_reads}
 use Rattle.session.specs.Core.{core_system}
-use Rattle.session.specs.Demand3.{System, Side, CodedFault, CodedReport, log_from, reader, Bound, unbounded}
+use Rattle.session.specs.Demand3.{System, CodedFault, CodedReport, reader, Bound, unbounded}
 use Rattle.session.specs.EveryHost.{CodedHost, EveryHost}
-use Rattle.session.specs.Faithful.{came_of, reply_of, AsReader, AsMade, Faithful}
+use Rattle.session.specs.Faithful.{came_of, reply_of, AsMade, Faithful}
 use Rattle.session.specs.Gate.{gated}
 use Rattle.session.specs.Host.{Broken, Stop, Entry, outcome_of, at_start, log_of}
 use Rattle.session.proofs.Accepts.{AllAccepted, log-accepts}
 use Rattle.session.proofs.Demand3.{opens, begins-empty, core-hosts}
-use Rattle.session_reads.specs.Counted.{counts_of, lengths_of, Counted, UnderCeiling, EveryRead, OpensEmpty, SideReads}
+use Rattle.session_reads.specs.Counted.{counts_of, Counted, EveryRead, OpensEmpty, SideReads}
 use Rattle.session_reads.proofs.Counted.{log-counted, log-ceiling}
 use Rattle.session_reads.proofs.Turns.{log-linked, Linked}
 

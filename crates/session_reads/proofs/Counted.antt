@@ -1,9 +1,9 @@
 -- A faithful log whose reads follow each other accepts as many as the plain reader, call by call.
 -- Assumes nothing.
-use Prim.Native.Nat.{ℕ, zero, suc, ◌+◌, ◌-◌, ◌≤◌, ◌<◌, min}
+use Prim.Native.Nat.{ℕ, zero, suc, ◌+◌, ◌-◌, ◌≤◌, ◌<◌}
 use mathlib.Core.Bool.{Bool, true, false, true≢false, ◌&&◌}
 use mathlib.Core.List.{List, [], ◌∷◌, ◌++◌}
-use mathlib.Core.Logic.{◌⊎◌, inl, inr}
+use mathlib.Core.Logic.{inl, inr}
 use mathlib.Core.Option.{Option, none, some}
 use mathlib.Core.Path.{◌≡◌, refl, sym, ap, ◌∙◌, subst}
 use native.Mathlib.Omega.{arith}
@@ -11,13 +11,13 @@ use borrow.Author.Tests.{ltb-true, ltb-false, lt-ltb, le-ltb}
 use lib.Dec.{ltb}
 use lib.ListN.{length, take, drop, length-append, length-drop, length-take}
 use lib.Seq.{take-take, take_at, take-length}
-use Rattle.protocol.specs.Answers.{Answer, End}
+use Rattle.protocol.specs.Answers.{End}
 use Rattle.protocol.specs.Bytes.{pick}
 use Rattle.protocol.specs.Calls.{Call, Made}
 use Rattle.protocol.specs.Hours.{Hours}
-use Rattle.protocol.specs.Reader.{Prog, Result, ended, short, plain, Config, Report, program, config_after, end_of, Reply, reply, plain_call}
+use Rattle.protocol.specs.Reader.{Prog, Result, ended, short, plain, Config, Report, program, config_after, end_of, reply, plain_call}
 use Rattle.protocol.specs.Refusal.{turned}
-use Rattle.protocol_reads.specs.Reads.{Tally, still, one_more, reads_of, call_reads, Positive, OffLink}
+use Rattle.protocol_reads.specs.Reads.{Tally, still, one_more, call_reads, Positive, OffLink}
 use Rattle.protocol_reads.proofs.Ceiling.{program-tight, reads-ceiling}
 use Rattle.protocol_reads.proofs.Rerun.{is_short, left, reading, rerun, Settles, Walks, walks}
 use Rattle.session.specs.Faithful.{AtNeed, Brought, AllAtNeeds, came_by, comes_out, came_of, reply_of, AsReader, AsMade, Faithful}

@@ -1,19 +1,19 @@
 -- The reads of a call follow each other: each finds the bytes that the one before it left. Of any engine, against any host.
 -- Assumes nothing.
-use Prim.Native.Nat.{ℕ, zero, suc, ◌+◌, ◌≤◌, ◌<◌}
+use Prim.Native.Nat.{ℕ, zero, suc, ◌+◌, ◌≤◌}
 use mathlib.Core.Bool.{Bool, true, false, ◌&&◌}
 use mathlib.Core.List.{List, [], ◌∷◌, ◌++◌}
 use mathlib.Core.Logic.{◌⊎◌, inl, inr}
 use mathlib.Core.Option.{Option, none, some}
-use mathlib.Core.Path.{◌≡◌, refl, sym, ap, ◌∙◌, subst}
+use mathlib.Core.Path.{◌≡◌, refl, ap}
 use native.Mathlib.Omega.{arith}
 use lib.Dec.{ltb, leb}
-use lib.ListN.{length, take, drop}
-use Rattle.protocol.specs.Answers.{Answer, End}
+use lib.ListN.{length, drop}
+use Rattle.protocol.specs.Answers.{End}
 use Rattle.protocol.specs.Bytes.{pick}
 use Rattle.protocol.specs.Calls.{Made}
 use Rattle.protocol.specs.Reader.{Report, accepted, broke}
-use Rattle.session.specs.Host.{Show, told, read, write_rx, write_lent, write_bytes, close, Step, Engine, Host, Ask, Stop, World, new_call, has_read, has_stopped, composing, counted, lent_of, Run, over_with, unended, asking, grant_read, grant_write, grant_close, granted, run, enough, run_call, Entry, on_run, log_of}
+use Rattle.session.specs.Host.{Show, told, read, write_rx, write_lent, write_bytes, close, Step, Engine, Host, Ask, Stop, World, new_call, composing, counted, lent_of, Run, over_with, unended, asking, grant_read, grant_write, grant_close, granted, run, enough, run_call, Entry, on_run, log_of}
 
 -- l was to come when the call began, l' is now
 abbrev pub Chained : List ℕ → List Ask → List ℕ → Type 0

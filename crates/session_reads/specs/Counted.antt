@@ -5,8 +5,8 @@ use Rattle.std.proofs.Math.Option.{Option}
 use Rattle.protocol.specs.Bytes.{pick, Bytes}
 use Rattle.protocol.specs.Calls.{Made}
 use Rattle.protocol.specs.Hours.{Hours}
-use Rattle.protocol.specs.Reader.{Config, Report, config_after, plain_call}
-use Rattle.protocol_reads.specs.Reads.{Tally, made_reads, plain_reads, OffLink}
+use Rattle.protocol.specs.Reader.{Config, Report, config_after}
+use Rattle.protocol_reads.specs.Reads.{made_reads, plain_reads, OffLink}
 use Rattle.session.specs.Demand3.{Opening, System, Side, AllWide, CodedReport, reader, log_from, Bound, Within}
 use Rattle.session.specs.EveryHost.{CodedHost}
 use Rattle.session.specs.Faithful.{came_of}

@@ -8,7 +8,6 @@ use borrow.Author.Tests.{le-leb, eq-eqb, ne_eqb, ltb-true, leb-true}
 use lib.Dec.{eqb, leb, ltb}
 use lib.IntN.{ℤ}
 use lib.ListN.{length, drop}
-use Rattle.protocol.specs.Answers as A
 use Rattle.protocol.specs.Answers.{Answer}
 use Rattle.protocol.specs.Bytes.{Bytes, pick, number_at, over, put}
 use Rattle.protocol.proofs.Bytes.{over-length}

@@ -10,7 +10,6 @@ use Rattle.protocol.specs.Bytes.{bytes_of, le, put, over, number_at}
 use Rattle.protocol.proofs.Bytes.{put_in, put-length}
 use Rattle.record.specs.Record.{words}
 use Rattle.record.proofs.Words.{length-words}
-use Rattle.session.specs.State.{st}
 use Rattle.session.specs.declared.Reply.{Reply}
 use Rattle.session.specs.declared.Reply.TheVariants as R
 use Rattle.boundary.specs.Crossing.{Crossed}

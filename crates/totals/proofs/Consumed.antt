@@ -1,6 +1,6 @@
 -- No more bytes are held than were received: an event that is let in adds to the bytes held at most the count of a read.
 -- Assumes nothing.
-use Prim.Native.Nat.{ℕ, ◌+◌, ◌-◌, ◌*◌, ◌≤◌, ◌<◌, ◌^◌}
+use Prim.Native.Nat.{ℕ, ◌+◌, ◌*◌, ◌≤◌, ◌<◌, ◌^◌}
 use mathlib.Core.List.{List}
 use mathlib.Core.Option.{none}
 use mathlib.Core.Path.{◌≡◌, refl, sym, ap, ◌∙◌, subst}
@@ -24,8 +24,6 @@ use Rattle.recv_buf.proofs.Laws.{held-length}
 use Rattle.session.specs.Calls.{open_refusal}
 use Rattle.session.specs.Core.{features_from}
 use Rattle.session.specs.State.{st, Out}
-use Rattle.session.specs.declared.Answer.TheVariants as A
-use Rattle.session.specs.declared.Reply.TheVariants as R
 use Rattle.session.specs.declared.Session.{Session}
 use Rattle.boundary.specs.Crossing.{Crossed, is_refusal, back, OpenCrossed, opened_with, cross_open, fault_numbered, request_numbered, call_numbered, unknown_call}
 use Rattle.boundary.proofs.Steps.{narrow-of}

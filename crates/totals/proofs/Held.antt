@@ -22,7 +22,6 @@ use Rattle.session.specs.Reports.{refusal_at, read_in, read_at, report_read, wro
 use Rattle.session.specs.State.{St, st, Out, dialect_in, at, beside, begun}
 use Rattle.session.specs.Sends.{tidied, carried, id_for, message_out, sent, resumed, is_end, wrote_on}
 use Rattle.session.specs.Steps.{asked, turned, turn_of, followed, hopped, on_hop, pumped}
-use Rattle.session.specs.declared.Answer.TheVariants as A
 use Rattle.session.specs.declared.Fault.{Fault}
 use Rattle.session.specs.declared.Fault.TheVariants as F
 use Rattle.session.specs.declared.Pending.{Pending}

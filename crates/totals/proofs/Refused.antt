@@ -16,7 +16,7 @@ use Rattle.protocol.proofs.Bodies.{pick-cases}
 use Rattle.session.specs.Gate as G
 use Rattle.session.specs.Host.{Show, told, read, write_rx, write_lent, write_bytes, close}
 use Rattle.session.specs.Shown.{part_of}
-use Rattle.session_layer.specs.Layer.{was_refused, tells_refusal}
+use Rattle.session_layer.specs.Layer.{tells_refusal}
 use Rattle.boundary.specs.Heard.{done_heard, answer_heard, heard}
 use Rattle.boundary_misuse.proofs.Unchanged.{listed_below}
 use Rattle.totals.specs.Crossing.{refuses}

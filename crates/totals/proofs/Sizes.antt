@@ -19,7 +19,6 @@ use Rattle.record.specs.Record.{stored, size}
 use Rattle.record.proofs.Stored.{stored-length}
 use Rattle.session.specs.Calls.{fresh, open_refusal}
 use Rattle.session.specs.Core.{features_from}
-use Rattle.session.specs.State.{st}
 use Rattle.session.specs.declared.Reply.{Reply}
 use Rattle.session.specs.declared.Reply.TheVariants as R
 use Rattle.boundary.specs.Crossing.{Crossed, is_refusal, OpenCrossed, opened_with, cross_open}

@@ -1,6 +1,6 @@
 -- A start tells 0 or one of 1 to 17, whatever record it finds: its refusals are below 12, and no other answer is a refusal.
 -- Assumes nothing.
-use Prim.Native.Nat.{ℕ, zero, suc, ◌+◌, ◌-◌, ◌*◌, ◌/◌, ◌≤◌, ◌<◌, min}
+use Prim.Native.Nat.{ℕ, zero, suc, ◌+◌, ◌-◌, ◌*◌, ◌/◌, ◌<◌, min}
 use mathlib.Core.Bool.{Bool, true, false}
 use mathlib.Core.List.{List}
 use mathlib.Core.Logic.{◌⊎◌, inl, inr}
@@ -14,7 +14,7 @@ use Rattle.protocol.specs.Answers as P
 use Rattle.protocol.specs.Bytes.{pick, put, same}
 use Rattle.protocol.specs.Ids.{Dialect, DATA, DONE, OKAY, FAIL}
 use Rattle.protocol.specs.Messages.{bytes_of_request}
-use Rattle.protocol.specs.Records.{id_at, arg_at, Stat2, stat2_at}
+use Rattle.protocol.specs.Records.{id_at, arg_at, stat2_at}
 use Rattle.protocol.specs.Refusal.{request_refusal, closed_hours}
 use Rattle.protocol.proofs.Bodies.{pick-cases}
 use Rattle.recv_buf.specs.RecvBuf.{held_count, compacted}
@@ -42,11 +42,11 @@ use Rattle.session.specs.declared.Version.TheVariants.{V1, V2}
 use Rattle.session.specs.declared.Want.{Want}
 use Rattle.session.specs.declared.Want.TheVariants as N
 use Rattle.session.specs.Calls.{misfit, is_idle, call_refusal, refused_or, refusal_of, setting_of, or_refuse, start_call, entry_call, chunk_call}
-use Rattle.session.specs.Phases.{wants, going, strange, stat_id_of, entry_id_of, stopping, proceed, headed, stat_v2_answer, stat_turn, drained, turn_at}
+use Rattle.session.specs.Phases.{wants, stat_id_of, entry_id_of, proceed, headed, stat_turn, drained, turn_at}
 use Rattle.session.specs.Sends.{piece_reply, id_for, send_piece, message_out, sent}
 use Rattle.session.specs.State.{dialect_in, St, st, Out, Half, half, stepped, at, begun}
-use Rattle.session.specs.Steps.{asked, HopOut, over, on, turned, followed, turn_of, hopped, on_hop, pumped, read_on}
-use Rattle.boundary.specs.Crossing.{Crossed, is_refusal, turned_away, back, on_loaded, request_numbered, step_numbered, call_numbered, unknown_call, cross_start}
+use Rattle.session.specs.Steps.{asked, HopOut, over, on, turned, followed, turn_of, hopped, on_hop, pumped}
+use Rattle.boundary.specs.Crossing.{Crossed, is_refusal, back, on_loaded, request_numbered, call_numbered, unknown_call, cross_start}
 use Rattle.boundary.specs.Told.{answer_number, reply_number, out_size}
 use Rattle.boundary.proofs.Reports.{NarrowRefusal, lets, by_number, by_feature, request-narrow}
 use Rattle.boundary_misuse.proofs.Unchanged.{told-number}

@@ -1,5 +1,4 @@
 -- `fast_replies::stat_at` meets its contract.
-use mathlib.Core.Bool.{false, true}
 use mathlib.Core.Path.{◌≡◌, sym, ap, ◌∙◌}
 use Prim.Native.Nat.{◌+◌, ◌-◌}
 use native.Mathlib.Omega.{arith}
