@@ -7,6 +7,7 @@ import glob
 import re
 import sys
 
+BINDERS = ("atClose", "recordIn", "quitId", "textA", "textB", "cutLines")  # names of arguments, and of an import
 OTHERWISE = {"otherLength": "wrong_length"}  # in snake case it would be a field's name beside it
 NAME = r"[^\s(){}\[\];,.λ\"`]+"
 TOKEN = re.compile(r"[^\s(){}\[\];,.λ\"`]+")
@@ -37,9 +38,10 @@ def declarations(path):
         elif re.match(r"module\s+_", text):
             around.append((indent, "module"))
         elif inside in ("top", "module", "record", "data"):
-            named = re.match(rf"(?:(?:pub|abbrev|unfoldable|pattern)\s+)*({NAME})\s+:(\s|$)", text)
+            named = re.match(rf"(?:(?:pub|abbrev|unfoldable|pattern)\s+)*({NAME}(?:\s+{NAME})*?)\s+:(\s|$)", text)
             if named and not re.search(r": (tie\.|\{M : Type 1\} → (\w+\.)?statement)", text):
-                yield {"record": "field", "data": "case"}.get(inside, "definition"), named[1]
+                for name in named[1].split():
+                    yield {"record": "field", "data": "case"}.get(inside, "definition"), name
             around.append((indent, "body"))
 
 
@@ -108,6 +110,7 @@ def main():
             kept.append((name, to))
             continue
         new[name] = to
+    new |= {name: snake(name) for name in BINDERS}
     for name, to in sorted(new.items()):
         print(f"{name} {to}")
     for name, to in kept:

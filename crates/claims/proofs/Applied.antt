@@ -16,7 +16,7 @@ use Rattle.protocol.specs.Digits.{digits}
 use Rattle.protocol.specs.Reader.{accepted, writes, plain_writes}
 use Rattle.protocol.specs.Ids.{letters, published}
 use Rattle.protocol.proofs.Ids.{published-legal}
-use Rattle.text_lines.specs.Lines.{lines_of as cutLines}
+use Rattle.text_lines.specs.Lines.{lines_of as cut_lines}
 use Rattle.id_table.specs.IdsFile.{ids, checked, ids_in, file_with}
 use Rattle.id_table.specs.Settings.{table_from, lent_in}
 use Rattle.id_table.proofs.Laws.{id-tables}
@@ -87,7 +87,7 @@ abbrev pub publishing : Opening
 publishing = record { banner = banner; table = letters; legal = published-legal; hours = none; kept = tt }
 
 pub small-read : ids_in (file_with small) ≡ ids small
-unfolding ids_in cutLines checked
+unfolding ids_in cut_lines checked
 small-read = refl
 
 abbrev pub lowering : Opening

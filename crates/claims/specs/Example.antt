@@ -102,8 +102,8 @@ lines_of e =
 
 -- "stat: write; next(STAT); need 16; drop it": its message is composed at the front; sixteen reads, each into all that is free; mode, size
 -- and time at 4, 8 and 12. "quit: write; close."
-abbrev pub logged : (stat_id quitId : List ℕ) → List Lines
-logged stat_id quitId =
+abbrev pub logged : (stat_id quit_id : List ℕ) → List Lines
+logged stat_id quit_id =
     record {
       answer = A.stat (record { mode = 33188; size = 1998; mtime = 5 });
       reads = row 1 15 15 1 ∷ row 2 14 14 2 ∷ row 3 13 13 3 ∷ row 4 12 12 4 ∷ row 5 11 11 5 ∷ row 6 10 10 6 ∷ row 7 9 9 7 ∷ row 8 8 8 8
@@ -118,9 +118,9 @@ logged stat_id quitId =
     ∷ record {
       answer = A.done;
       reads = [];
-      pieces = (quitId ++ 0 ∷ 0 ∷ 0 ∷ 0 ∷ []) ∷ [];
+      pieces = (quit_id ++ 0 ∷ 0 ∷ 0 ∷ 0 ∷ []) ∷ [];
       composed = [];
-      closes = ((quitId ++ 0 ∷ 0 ∷ 0 ∷ 0 ∷ []) ∷ []) ∷ [];
+      closes = ((quit_id ++ 0 ∷ 0 ∷ 0 ∷ 0 ∷ []) ∷ []) ∷ [];
       unread = [];
       ends = 16;
     }

@@ -21,7 +21,7 @@ use Rattle.protocol.specs.Ids.{Sound, Id, STAT, STA2, LIST, LIS2, SEND, SND2, RE
 use Rattle.protocol.specs.Messages.{PathOnly, stat, sta2, list, lis2, recv, path_id, Request, ask, rcv2, send, snd2, chunk, done, quit, word, message_of, joined, bytes_of_request, PathOk, data_most, HostWrites}
 use Rattle.protocol.specs.Modes.{mode_in}
 use Rattle.protocol.specs.Records.{header_size}
-use Rattle.protocol.specs.Requests.{Read, more, refused, request, Kind, path_only, pathFlags, pathMode, pathModeFlags, bytes, kind_of, arg_ok, following, bad_path, comma_at, last_comma, with_mode, at_comma, body_of}
+use Rattle.protocol.specs.Requests.{Read, more, refused, request, Kind, path_only, path_flags, path_mode, path_mode_flags, bytes, kind_of, arg_ok, following, bad_path, comma_at, last_comma, with_mode, at_comma, body_of}
 use Rattle.protocol.proofs.Bytes.{same_refl, same-eq}
 use Rattle.protocol.proofs.Messages.{kind-path}
 use Rattle.protocol.proofs.Modes.{Written, decimal-mode, mode-written, decimal-text}
@@ -116,7 +116,7 @@ module _ (d : Dialect) where
       (λ _. tt)
       (λ good. (inl (path-was_good d b good), by_host (rw (append-nil b, e)), rw e))
 
-  means-flags : (n : ℕ) (b : List ℕ) → Bytes b → length b ≡ n + 8 → Means d RCV2 n b (body_of d pathFlags n b)
+  means-flags : (n : ℕ) (b : List ℕ) → Bytes b → length b ≡ n + 8 → Means d RCV2 n b (body_of d path_flags n b)
   unfolding body_of bytes_of_request message_of
   means-flags n b h e =
       let f = number_at 4 (n + 4) b in
@@ -127,7 +127,7 @@ module _ (d : Dialect) where
       let there = inner-there b n (d.bytes RCV2) (word f ++ []) inner (word-last b (n + 4) (n + 8) h (omega arith) e) in
       (inl (path, (pass, number-below 4 b (n + 4) h)), by_host (rw (length-take-le n b (omega arith), there)), rw e))
 
-  means-mode_flags : (n : ℕ) (b : List ℕ) → Bytes b → length b ≡ n + 12 → Means d SND2 n b (body_of d pathModeFlags n b)
+  means-mode_flags : (n : ℕ) (b : List ℕ) → Bytes b → length b ≡ n + 12 → Means d SND2 n b (body_of d path_mode_flags n b)
   unfolding body_of bytes_of_request message_of
   means-mode_flags n b h e =
       let m = number_at 4 (n + 4) b in
@@ -151,7 +151,7 @@ module _ (d : Dialect) where
       let size : length p + 1 + length t ≡ n = omega (arith, text-size p t, ap length there) in
       in_octal p t m refl w (rw (size, there))
 
-  means-mode : (n : ℕ) (b : List ℕ) → length b ≡ n → Means d SEND n b (body_of d pathMode n b)
+  means-mode : (n : ℕ) (b : List ℕ) → length b ≡ n → Means d SEND n b (body_of d path_mode n b)
   unfolding body_of
   means-mode n b e = at (last_comma b) refl
     where
@@ -209,14 +209,14 @@ pub record Reads (d : Dialect) (k : Kind) (n : ℕ) (b : List ℕ) (q : Request)
 
 -- a SEND whose mode stands in a text without a comma
 module _ (d : Dialect) (p t : List ℕ) (clear : has 44 t ≡ false) where
-  pub mode-body : body_of d pathMode (length p + 1 + length t) (p ++ 44 ∷ t) ≡ with_mode d p (header_size + (length p + 1 + length t)) (mode_in t)
+  pub mode-body : body_of d path_mode (length p + 1 + length t) (p ++ 44 ∷ t) ≡ with_mode d p (header_size + (length p + 1 + length t)) (mode_in t)
   unfolding body_of
   mode-body =
       let text : drop (suc (length p)) (p ++ 44 ∷ t) ≡ t = ap (λ (k : ℕ). drop k (p ++ 44 ∷ t)) (sym (add-one (length p))) ∙ drop-append-add p (44 ∷ t) 1 in
       rw (comma-last p t (comma-none t clear), take-append_seam p (44 ∷ t), text, text-size p t)
 
   reads-mode : (m : ℕ) → PathOk d p → length p + 1 + length t < 0x1_0000_0000 → length p + 1 + length t ≤ d.longest + 13 → mode_in t ≡ some m
-      → Reads d pathMode (length p + 1 + length t) (p ++ 44 ∷ t) (send p m)
+      → Reads d path_mode (length p + 1 + length t) (p ++ 44 ∷ t) (send p m)
   unfolding arg_ok following
   reads-mode m path fits short mode =
       record { fits = fits; ok = omega (arith, le-leb); follows = sym (text-size p t); reads = mode-body ∙ rw (mode, path-good d p path) }
@@ -227,7 +227,7 @@ module _ (d : Dialect) (sound : Sound d) (small : d.longest + 11 < 0x1_0000_0000
   reads-path i p h =
       record { fits = omega arith; ok = omega (arith, le-leb); follows = refl; reads = rw (path-good d p h) }
 
-  reads-flags : (p : List ℕ) (f : ℕ) → HostWrites d (rcv2 p f) → Reads d pathFlags (length p) (p ++ (d.bytes RCV2 ++ (word f ++ []))) (rcv2 p f)
+  reads-flags : (p : List ℕ) (f : ℕ) → HostWrites d (rcv2 p f) → Reads d path_flags (length p) (p ++ (d.bytes RCV2 ++ (word f ++ []))) (rcv2 p f)
   unfolding arg_ok following body_of
   reads-flags p f h =
       let x = d.bytes RCV2 in
@@ -243,7 +243,7 @@ module _ (d : Dialect) (sound : Sound d) (small : d.longest + 11 < 0x1_0000_0000
       }
 
   reads-mode_flags : (p : List ℕ) (m f : ℕ) → HostWrites d (snd2 p m f)
-      → Reads d pathModeFlags (length p) (p ++ (d.bytes SND2 ++ (word m ++ (word f ++ [])))) (snd2 p m f)
+      → Reads d path_mode_flags (length p) (p ++ (d.bytes SND2 ++ (word m ++ (word f ++ [])))) (snd2 p m f)
   unfolding arg_ok following body_of
   reads-mode_flags p m f h =
       let x = d.bytes SND2 in

@@ -17,7 +17,7 @@ pub data Read : Type 0 where
 -- what stands behind a header: one kind for each form of the host's eleven, and the ids that are none of them
 pub data Kind : Type 0 where
   path_only : PathOnly → Kind
-  pathFlags pathMode pathModeFlags bytes time bare foreign : Kind
+  path_flags path_mode path_mode_flags bytes time bare foreign : Kind
 
 abbrev pub kind_of : Id → Kind
 kind_of STAT = path_only stat
@@ -25,9 +25,9 @@ kind_of STA2 = path_only sta2
 kind_of LIST = path_only list
 kind_of LIS2 = path_only lis2
 kind_of RECV = path_only recv
-kind_of RCV2 = pathFlags
-kind_of SEND = pathMode
-kind_of SND2 = pathModeFlags
+kind_of RCV2 = path_flags
+kind_of SEND = path_mode
+kind_of SND2 = path_mode_flags
 kind_of DATA = bytes
 kind_of DONE = time
 kind_of QUIT = bare
@@ -40,9 +40,9 @@ kind_of DNT2 = foreign
 -- 1,037" (document 02, [5]: the longest path, a comma, a 0 and eleven digits), "that of the other path requests 1,024; DATA keeps 65,536" ([2])
 unfoldable pub arg_ok : Dialect → Kind → ℕ → Bool
 arg_ok d (path_only i) n = leb n d.longest
-arg_ok d pathFlags n = leb n d.longest
-arg_ok d pathMode n = leb n (d.longest + 13)
-arg_ok d pathModeFlags n = leb n d.longest
+arg_ok d path_flags n = leb n d.longest
+arg_ok d path_mode n = leb n (d.longest + 13)
+arg_ok d path_mode_flags n = leb n d.longest
 arg_ok d bytes n = leb n data_most
 arg_ok d time n = true
 arg_ok d bare n = eqb n 0
@@ -51,9 +51,9 @@ arg_ok d foreign n = false
 -- how many bytes follow the header
 unfoldable pub following : Kind → ℕ → ℕ
 following (path_only i) n = n
-following pathFlags n = n + 8
-following pathMode n = n
-following pathModeFlags n = n + 12
+following path_flags n = n + 8
+following path_mode n = n
+following path_mode_flags n = n + 12
 following bytes n = n
 following time n = 0
 following bare n = 0
@@ -88,12 +88,12 @@ at_comma d b (some k) = with_mode d (take k b) (header_size + length b) (mode_in
 -- the whole message: n is its arg, b what follows the header
 unfoldable pub body_of : Dialect → Kind → ℕ → List ℕ → Read
 body_of d (path_only i) n b = unless_bad (bad_path d b) (ask i b) (header_size + n)
-body_of d pathFlags n b =
+body_of d path_flags n b =
     unless_bad (bad_path d (take n b) || not (same (take 4 (drop n b)) (d.bytes RCV2)) || refused_flags true (number_at 4 (n + 4) b))
     (rcv2 (take n b) (number_at 4 (n + 4) b))
     (header_size + (n + 8))
-body_of d pathMode n b = at_comma d b (last_comma b)
-body_of d pathModeFlags n b =
+body_of d path_mode n b = at_comma d b (last_comma b)
+body_of d path_mode_flags n b =
     unless_bad (bad_path d (take n b) || not (same (take 4 (drop n b)) (d.bytes SND2)) || refused_flags false (number_at 4 (n + 8) b))
     (snd2 (take n b) (number_at 4 (n + 4) b) (number_at 4 (n + 8) b))
     (header_size + (n + 12))

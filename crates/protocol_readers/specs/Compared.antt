@@ -8,7 +8,7 @@ use Rattle.protocol.specs.Records.{Stat, Stat2}
 use Rattle.protocol_readers.specs.Wider.{Stops, Unstopped, Like}
 
 -- A with capacity c on a FAIL of length l, its text, and B's
-abbrev Alike : (c l : ℕ) → (textA textB : List ℕ) → Type 0
+abbrev Alike : (c l : ℕ) → (text_a text_b : List ℕ) → Type 0
 Alike c l a b = Like c l (fail a) (fail b)
 
 pub record Compared : Type 0 where

@@ -15,7 +15,7 @@ use Rattle.protocol.specs.Flags.{refused_flags}
 use Rattle.protocol.specs.Ids.{published}
 use Rattle.protocol.specs.Messages.{PathOnly, Request, ask, rcv2, snd2, word}
 use Rattle.protocol.specs.Records.{header_size, id_at, u32_at}
-use Rattle.protocol.specs.Requests.{Read, more, refused, request, path_only, pathFlags, pathModeFlags, arg_ok, following, bad_path, unless_bad, body_of}
+use Rattle.protocol.specs.Requests.{Read, more, refused, request, path_only, path_flags, path_mode_flags, arg_ok, following, bad_path, unless_bad, body_of}
 use Rattle.protocol.proofs.Bytes.{same_refl, same-eq, whole_in}
 use Rattle.protocol.proofs.Words.{word-spelled}
 use Rattle.request.specs.Meaning.{meant}
@@ -126,7 +126,7 @@ on-words n behind f g pull s q x words = go (dec_le (header_size + (n + behind))
     go (no short) = let h : length s < header_size + (n + behind) = omega arith in rw (lt-ltb _ _ h) (simp (whole-pick, staged-pick))
 
 pub on-flags : (n f : ℕ) (s : List ℕ) → f ≡ whole 4 0 (u32_at 0) s (n + 12)
-    → on_arg pathFlags n s ≡ staged (words_of n 8 f true s) (request (rcv2 (take n (drop header_size s)) f) (n + 16))
+    → on_arg path_flags n s ≡ staged (words_of n 8 f true s) (request (rcv2 (take n (drop header_size s)) f) (n + 16))
 unfolding on_arg arg_ok following body_of bad_path
 on-flags n f s e =
     let g = number_at 4 (n + 4) (take (n + 8) (drop header_size s)) in
@@ -136,7 +136,7 @@ on-flags n f s e =
     (λ there. let w = word_at n 4 8 s (omega arith) there ∙ sym e in (w, ap (rcv2 p) w)))
 
 pub on-mode_flags : (n m f : ℕ) (s : List ℕ) → m ≡ whole 4 0 (u32_at 0) s (n + 12) → f ≡ whole 4 0 (u32_at 0) s (n + 16)
-    → on_arg pathModeFlags n s ≡ staged (words_of n 12 f false s) (request (snd2 (take n (drop header_size s)) m f) (n + 20))
+    → on_arg path_mode_flags n s ≡ staged (words_of n 12 f false s) (request (snd2 (take n (drop header_size s)) m f) (n + 20))
 unfolding on_arg arg_ok following body_of bad_path
 on-mode_flags n m f s d e =
     let k = number_at 4 (n + 4) (take (n + 12) (drop header_size s)) in

@@ -11,7 +11,7 @@ use Rattle.protocol.specs.Bytes.{number_at, whole}
 use Rattle.protocol.specs.Ids.{Id, STAT, STA2, LIST, LIS2, SEND, SND2, RECV, RCV2, DATA, DONE, OKAY, FAIL, DENT, DNT2, QUIT, letters, Table, under, named}
 use Rattle.protocol.specs.Modes.{mode_in}
 use Rattle.protocol.specs.Records.{header_size, id_at, arg_at, u32_at}
-use Rattle.protocol.specs.Requests.{Kind, path_only, pathFlags, pathMode, pathModeFlags, bytes, time, bare, foreign, more, refused, kind_of, arg_ok, following, bad_path, last_comma, at_comma, with_mode, body_of, on_id, read_request}
+use Rattle.protocol.specs.Requests.{Kind, path_only, path_flags, path_mode, path_mode_flags, bytes, time, bare, foreign, more, refused, kind_of, arg_ok, following, bad_path, last_comma, at_comma, with_mode, body_of, on_id, read_request}
 use Rattle.protocol.proofs.Bytes.{whole_in}
 use Rattle.protocol.proofs.Ids.{named-sound}
 use Rattle.request_reader.specs.Meaning.{own, on_arg, send_of}
@@ -54,19 +54,19 @@ comma-any t u b (some k) = go (mode_in (drop (suc k) b))
     go none = refl
     go (some m) = refl
 
-pub on-text : (n : ℕ) (s : List ℕ) → arg_ok (own s) pathMode n ≡ true → header_size + n ≤ length s → on_arg pathMode n s ≡ send_of (take n (drop header_size s))
+pub on-text : (n : ℕ) (s : List ℕ) → arg_ok (own s) path_mode n ≡ true → header_size + n ≤ length s → on_arg path_mode n s ≡ send_of (take n (drop header_size s))
 unfolding following body_of
 on-text n s ok h =
     let b = take n (drop header_size s) in
-    on-whole pathMode n s ok h ∙ comma-any (λ i. id_at s) letters b (last_comma b)
+    on-whole path_mode n s ok h ∙ comma-any (λ i. id_at s) letters b (last_comma b)
 
 -- ... and every arg
 arg-any : (t u : Table) (k : Kind) (n : ℕ) → arg_ok (under t) k n ≡ arg_ok (under u) k n
 unfolding arg_ok
 arg-any t u (path_only i) n = refl
-arg-any t u pathFlags n = refl
-arg-any t u pathMode n = refl
-arg-any t u pathModeFlags n = refl
+arg-any t u path_flags n = refl
+arg-any t u path_mode n = refl
+arg-any t u path_mode_flags n = refl
 arg-any t u bytes n = refl
 arg-any t u time n = refl
 arg-any t u bare n = refl

@@ -141,7 +141,7 @@ fn read_path(s: &[u8], request: Request, n: usize) -> Read
 // A word that is not there is read as 0, and then the message is not whole.
 fn read_rcv2(s: &[u8], n: usize) -> Read
     requires { n < 0x1_0000_0000 }
-    ensures { told s.now result ≡ on_arg P.pathFlags n s.now }
+    ensures { told s.now result ≡ on_arg P.path_flags n s.now }
 {
     let flags = SyncFlags(u32_at(s, n + 12));
     let part = words_part(s, n, 8, flags, true);
@@ -150,7 +150,7 @@ fn read_rcv2(s: &[u8], n: usize) -> Read
 
 fn read_snd2(s: &[u8], n: usize) -> Read
     requires { n < 0x1_0000_0000 }
-    ensures { told s.now result ≡ on_arg P.pathModeFlags n s.now }
+    ensures { told s.now result ≡ on_arg P.path_mode_flags n s.now }
 {
     let mode = FileMode(u32_at(s, n + 12));
     let flags = SyncFlags(u32_at(s, n + 16));
@@ -210,7 +210,7 @@ fn read_text(s: &[u8], size: usize) -> Read
 }
 
 fn read_send(s: &[u8], n: usize) -> Read
-    ensures { told s.now result ≡ on_arg P.pathMode n s.now }
+    ensures { told s.now result ≡ on_arg P.path_mode n s.now }
 {
     if MAX_SEND < n {
         return Read::Refused;

@@ -32,13 +32,13 @@ scripted =
 
 -- reads of three bytes, the rest of a window filled with "-"; what is reported of the second write and of the close
 abbrev host : Report → Report → Host
-host second atClose =
+host second at_close =
     record {
       count = λ i. 3;
       fails = λ i. none;
       junk = λ i j. 45;
       writes = λ i. pick (eqb i 1) second accepted;
-      close = atClose;
+      close = at_close;
       end = error 7;
       spare = λ w. record { out = []; lent = []; first = 0; second = 0; kind = 0; code = 0 };
     }
@@ -51,8 +51,8 @@ msg = ascii "ABCDEFGHIJ"
 
 -- the log of some calls on a buffer "abcdefgh"
 abbrev row : Report → Report → List Call → List Show → (incoming : List ℕ) → List Entry → Fact (List Entry)
-row second atClose qs script incoming log =
-    record { computed = log_of scripted (host second atClose) (anytimes qs) (at_start incoming) script (ascii "abcdefgh") msg; paper = log }
+row second at_close qs script incoming log =
+    record { computed = log_of scripted (host second at_close) (anytimes qs) (at_start incoming) script (ascii "abcdefgh") msg; paper = log }
 
 abbrev script : List Show
 script = write_rx 2 3 ∷ write_lent 0 2 ∷ write_bytes (ascii "QU") ∷ read 4 4 ∷ close ∷ told A.end ∷ []

@@ -45,20 +45,20 @@ module _ {X : Type 0} (K : Account → Show → List ℕ → X → Type 0) where
 
   -- an engine's relation has the record's in it, and follows from that and the reads in the reply
   module _ (limit : ℕ) (fs : Functions) (E : Engine X) (lends : Spare → Type 0) (f : Follows limit fs E lends)
-      {Y : Type 0} (recordIn : Y → List ℕ) (keeping : Crossed → Y) (R : Account → Show → Y → X → Type 0)
-      (finds : (l : Account) (sh : Show) (y : Y) (x : X) → R l sh y x → K l sh (recordIn y) x)
+      {Y : Type 0} (record_in : Y → List ℕ) (keeping : Crossed → Y) (R : Account → Show → Y → X → Type 0)
+      (finds : (l : Account) (sh : Show) (y : Y) (x : X) → R l sh y x → K l sh (record_in y) x)
       (makes : (l : Account) (sh : Show) (c : Crossed) (x : X) → K l sh c.rec x → Tells l sh c → R l sh (keeping c) x) where
     alike : (l : Account) (c : Crossed) (s : Step X) → Crosses l c s → Alike R l (step_by keeping c) s
     alike l c s x = (keeping c, (ap (under (keeping c)) x.step, makes l s.show c s.x x.keeps x.tells))
 
-    pub engine-layer : Layer limit (engine_by fs recordIn keeping) E lends R
+    pub engine-layer : Layer limit (engine_by fs record_in keeping) E lends R
     engine-layer =
         record {
-          holds = λ l sh y x r rx. f.holds l sh (recordIn y) x (finds l sh y x r) rx;
-          tail = λ l sh y x r. f.tail l sh (recordIn y) x (finds l sh y x r);
-          start = λ l a y x r rx msg m z ok. alike _ _ (E.start x rx msg m z) (f.start l a (recordIn y) x (finds l (told a) y x r) rx msg m z ok);
+          holds = λ l sh y x r rx. f.holds l sh (record_in y) x (finds l sh y x r) rx;
+          tail = λ l sh y x r. f.tail l sh (record_in y) x (finds l sh y x r);
+          start = λ l a y x r rx msg m z ok. alike _ _ (E.start x rx msg m z) (f.start l a (record_in y) x (finds l (told a) y x r) rx msg m z ok);
           on_read = λ l at len y x r rx msg lent k z ok p q b n.
-              alike _ _ (E.on_read x rx msg lent k z) (f.on_read l at len (recordIn y) x (finds l (read at len) y x r) rx msg lent k z ok p q b n);
-          on_wrote = λ l sh y x r w b rx msg lent z ok n. alike _ _ (E.on_wrote x rx msg lent z) (f.on_wrote l sh (recordIn y) x (finds l sh y x r) w b rx msg lent z ok n);
-          on_fault = λ l sh y x r w rx msg lent e z ok n. alike _ _ (E.on_fault x rx msg lent e z) (f.on_fault l sh (recordIn y) x (finds l sh y x r) w rx msg lent e z ok n);
+              alike _ _ (E.on_read x rx msg lent k z) (f.on_read l at len (record_in y) x (finds l (read at len) y x r) rx msg lent k z ok p q b n);
+          on_wrote = λ l sh y x r w b rx msg lent z ok n. alike _ _ (E.on_wrote x rx msg lent z) (f.on_wrote l sh (record_in y) x (finds l sh y x r) w b rx msg lent z ok n);
+          on_fault = λ l sh y x r w rx msg lent e z ok n. alike _ _ (E.on_fault x rx msg lent e z) (f.on_fault l sh (record_in y) x (finds l sh y x r) w rx msg lent e z ok n);
         }

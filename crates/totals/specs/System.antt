@@ -23,16 +23,16 @@ start_by fs rec rx msg m z =
     let q = m.call in
     fs.start rec rx msg (lent_of z q) (call_number q) (first_number z q) (flag_number z q) m.moment z.out
 
--- each step is one crossing, on the record of the one before: `keeping` says what is kept of a crossing, `recordIn` where the record is in it
-abbrev pub engine_by : Functions → {Y : Type 0} → (recordIn : Y → List ℕ) → (keeping : Crossed → Y) → Engine Y
-engine_by fs recordIn keeping =
+-- each step is one crossing, on the record of the one before: `keeping` says what is kept of a crossing, `record_in` where the record is in it
+abbrev pub engine_by : Functions → {Y : Type 0} → (record_in : Y → List ℕ) → (keeping : Crossed → Y) → Engine Y
+engine_by fs record_in keeping =
     record {
-      start = λ y rx msg m z. step_by keeping (start_by fs (recordIn y) rx msg m z);
-      on_read = λ y rx msg lent k z. step_by keeping (fs.read (recordIn y) rx msg lent k z.out);
-      on_wrote = λ y rx msg lent z. step_by keeping (fs.wrote (recordIn y) rx msg lent z.out);
-      on_fault = λ y rx msg lent e z. step_by keeping (fs.fault (recordIn y) rx msg lent (end_kind z e) (end_code z e) z.out);
-      holds = λ y rx. held_bytes rx (cursor (word_of (recordIn y) 2) (word_of (recordIn y) 3));
-      tail = λ y. word_of (recordIn y) 3;
+      start = λ y rx msg m z. step_by keeping (start_by fs (record_in y) rx msg m z);
+      on_read = λ y rx msg lent k z. step_by keeping (fs.read (record_in y) rx msg lent k z.out);
+      on_wrote = λ y rx msg lent z. step_by keeping (fs.wrote (record_in y) rx msg lent z.out);
+      on_fault = λ y rx msg lent e z. step_by keeping (fs.fault (record_in y) rx msg lent (end_kind z e) (end_code z e) z.out);
+      holds = λ y rx. held_bytes rx (cursor (word_of (record_in y) 2) (word_of (record_in y) 3));
+      tail = λ y. word_of (record_in y) 3;
     }
 
 -- those of a record with totals; they do not look at the moment
