@@ -12,7 +12,6 @@ use Rattle.protocol.specs.Answers.{closed}
 use Rattle.protocol.specs.Bytes.{ascii, number_at, over, put}
 use Rattle.protocol.specs.Calls.{Made, anytimes, call, messages}
 use Rattle.protocol.specs.Features.{rest_after, split, has_feature, features_of}
-use Rattle.protocol.specs.Ids.{letters}
 use Rattle.protocol.specs.Messages.{stat, ask, message_of, bytes_of_request}
 use Rattle.protocol.specs.Reader.{accepted, writes, plain_writes}
 use Rattle.protocol.specs.Records.{stat_at}

@@ -2,7 +2,7 @@
 use Prim.Native.Nat.{ℕ}
 use mathlib.Core.List.{List}
 use mathlib.Core.Option.{Option, some}
-use mathlib.Core.Path.{◌≡◌, sym, ap, ◌∙◌}
+use mathlib.Core.Path.{◌≡◌, sym, ◌∙◌}
 use Rattle.protocol.specs.Hours.{Hours, Kept}
 use Rattle.protocol.specs.Ids.{Table, Legal}
 use Rattle.hours.specs.File.{hours_in}

@@ -9,7 +9,7 @@ use Rattle.protocol.specs.Answers as A
 use Rattle.protocol.specs.Answers.{Answer, closed, error}
 use Rattle.protocol.specs.Bytes.{ascii, pick}
 use Rattle.protocol.specs.Calls.{call, Made, anytimes}
-use Rattle.protocol.specs.Hours.{Span, Hours}
+use Rattle.protocol.specs.Hours.{Hours}
 use Rattle.protocol.specs.Messages.{ask, stat, send, quit}
 use Rattle.protocol.specs.Reader.{accepted}
 use Rattle.protocol.specs.Trials.{stat_reply}
