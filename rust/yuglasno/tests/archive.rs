@@ -263,7 +263,7 @@ fn nothing_is_written_through_a_link() {
 /// What is no folder is not opened: a pipe would wait for its other end.
 #[test]
 fn a_dir_that_is_no_folder() {
-    let (_, dir) = places("no folder");
+    let (_, dir) = places("a pipe for a folder");
     assert!(Command::new("mkfifo").arg(&dir).status().unwrap().success());
     for (words, expected) in [(&["--panel", "archive", "/jobs", text(&dir)][..], 73), (&["verify", text(&dir)], 66)] {
         let (status, _, error) = told(words);
