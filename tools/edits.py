@@ -29,6 +29,11 @@ new: use ids::Ids; ghost use Rattle.protocol.specs.Ids.{letters}; ghost use Ratt
 old: // The id of a call's message.
 new: fn id_in(_rec: &[u8], id: SyncId) -> u32 ensures { result ≡ number_of (ids_of letters) (id_of id) } { Ids::published().number(id) }
 """,
+    "fast_replies/must-fail/published_stat.edit": """
+file: src/lib.rt
+old: Version::V1 => id_in(rec, SyncId::Stat),
+new: Version::V1 => { id_in(rec, SyncId::Stat); 0x5441_5453 }
+""",
     "panel_reply/must-fail/times_by_distance.edit": """
 file: specs/Replies.antt
 old: use Rattle.record.specs.Fields.{unsigned}
