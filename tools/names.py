@@ -21,7 +21,7 @@ def files(*kinds):
 
 
 def declarations(path):
-    """The names that a file declares at its top, in its sections, and as fields and constructors: (kind, name)."""
+    """The names that a file declares at its top, in its sections, and as fields and as cases, of which a line may have several: (kind, name)."""
     around = []  # (indent, kind)
     for line in open(path, encoding="utf-8"):
         text = line.strip()
@@ -38,10 +38,11 @@ def declarations(path):
         elif re.match(r"module\s+_", text):
             around.append((indent, "module"))
         elif inside in ("top", "module", "record", "data"):
-            named = re.match(rf"(?:(?:pub|abbrev|unfoldable|pattern)\s+)*({NAME}(?:\s+{NAME})*?)\s+:(\s|$)", text)
+            more = rf"(?:\s+{NAME})*?" if inside == "data" else ""
+            named = re.match(rf"(?:(?:pub|abbrev|unfoldable|pattern)\s+)*({NAME}{more})\s+:(\s|$)", text)
             if named and not re.search(r": (tie\.|\{M : Type 1\} → (\w+\.)?statement)", text):
                 for name in named[1].split():
-                    yield {"record": "field", "data": "case"}.get(inside, "definition"), name
+                    yield "one of a line" if name != named[1] else {"record": "field", "data": "case"}.get(inside, "definition"), name
             around.append((indent, "body"))
 
 
@@ -78,6 +79,7 @@ def main():
     sources = files("specs/**/*.antt", "proofs/**/*.antt")
     outside = set()  # names that are brought in from elsewhere
     beside = {}  # a name: the names that stand in a file with it
+    alone = set()  # the names that have a line of their own
     own = {}  # name: whether it is a lemma's alone, and no definition, field or case
     crates = set(glob.glob("crates/*"))
     for path in sources + files("src/**/*.rt"):
@@ -94,7 +96,9 @@ def main():
         for kind, name in declarations(path):
             lemma = "/proofs/" in path and kind == "definition"
             own[name] = own.get(name, True) and lemma
-    words = {snake(n).replace("-", "_") for n, lemma in own.items() if not lemma} | {n for n in outside if "-" not in n}
+            if not lemma and kind != "one of a line":
+                alone.add(name)
+    words = {snake(n).replace("-", "_") for n, lemma in own.items() if not lemma and n in alone} | {n for n in outside if "-" not in n}
     new, kept = {}, []
     named = set()  # what a definition is called now
     for name in sorted(own, key=lambda n: (own[n], "-" in n, n)):  # definitions first
