@@ -12,7 +12,6 @@ TOLD, CROSSING, BOUNDARY, HEARD = specs('boundary', 'Told Crossing Boundary Hear
 ANSWERS, REFUSAL, IDS, MESSAGES, FEATURES, FLAGS = specs('protocol', 'Answers Refusal Ids Messages Features Flags')
 OPENING, REPORTS, HOST = specs('session', 'Calls Reports Host')
 FIELDS, = specs('record', 'Fields')
-READER = 'crates/request_reader/specs/Meaning.antt'
 MISUSE, = specs('boundary_misuse', 'Misuse')
 IDS_FILE, SETTINGS = specs('id_table', 'IdsFile Settings')
 INDEX, SLOTS, INDEX_CROSSING, INDEX_CLAIM = specs('time_index', 'Index Slots Crossing Claim')
@@ -22,7 +21,7 @@ HOURS, = specs('hours', 'Settings')
 TIMED, = specs('hours_totals', 'Crossing')
 CALENDAR, = specs('calendar', 'Crossing')
 EXPORTS = 'crates/exports_c/src/lib.rt'
-SOURCES = [TOLD, CROSSING, BOUNDARY, HEARD, ANSWERS, REFUSAL, IDS, MESSAGES, FEATURES, FLAGS, OPENING, REPORTS, HOST, FIELDS, READER]
+SOURCES = [TOLD, CROSSING, BOUNDARY, HEARD, ANSWERS, REFUSAL, IDS, MESSAGES, FEATURES, FLAGS, OPENING, REPORTS, HOST, FIELDS]
 SOURCES += [EXPORTS, MISUSE, IDS_FILE, SETTINGS, INDEX, SLOTS, INDEX_CROSSING, INDEX_CLAIM, PANEL, TOTALS, CARD, HOURS, TIMED, CALENDAR]
 
 # the definitions' words for the calls, and for some answers and kinds
@@ -57,7 +56,7 @@ REFUSALS = {
     'BAD_IDS': (IDS_FILE, r'bad_form = (\d+)'),
     'EQUAL_IDS': (IDS_FILE, r'equal_values = (\d+)'),
     'INDEX_FULL': (INDEX, r'index_full = (\d+)'),
-    'BAD_REQUEST': (READER, r'number R\.Refused = (\d+)'),
+    'BAD_REQUEST': (PANEL, r'bad_request = (\d+)'),
     'LONG_REPLY': (PANEL, r'long_reply = (\d+)'),
     'OVERFLOW': (TOTALS, r'overflowed = (\d+)'),
     'BAD_HOURS': (HOURS, r'bad_hours = (\d+)'),

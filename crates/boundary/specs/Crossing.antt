@@ -7,8 +7,8 @@ use Rattle.protocol.specs.Bytes.{pick, put, bytes_of}
 use Rattle.protocol.specs.Features as P
 use Rattle.features.specs.declared.Features.{Features}
 use Rattle.id_table.specs.Settings.{begun, loaded as taken, lent_in}
-use Rattle.id_table.specs.declared.Lent.{Lent}
-use Rattle.id_table.specs.declared.Lent.TheVariants as L
+use Rattle.id_table.specs.Lent.{Lent}
+use Rattle.id_table.specs.Lent as L
 use Rattle.record.specs.Record.{stored, loaded, size}
 use Rattle.request.specs.declared.Request.{Request}
 use Rattle.request.specs.declared.Request.TheVariants as Q

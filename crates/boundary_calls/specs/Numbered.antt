@@ -1,10 +1,9 @@
 -- The request that a call's number stands for, if it is one's.
 -- Assumes nothing.
-use Rattle.std.proofs.Math.Option.{Option, none, some}
+use Rattle.std.specs.Prelude.{Option, Some, None}
+use Rattle.std.proofs.Math.Option as M
 use Rattle.request.specs.declared.Request.{Request}
-use Rattle.boundary_calls.specs.declared.Asked.{Asked}
-use Rattle.boundary_calls.specs.declared.Asked.TheVariants as A
 
-abbrev pub asked : Asked → Option Request
-asked (A.Request q) = some q
-asked A.Other = none
+abbrev pub asked : Option Request → M.Option Request
+asked (Some q) = M.some q
+asked None = M.none

@@ -19,8 +19,8 @@ use Rattle.protocol.specs.Messages.{stat, sta2, list, lis2, recv, ask, rcv2, sen
 use Rattle.id_table.specs.IdsFile as F
 use Rattle.id_table.specs.IdsFile.{count, bad_form, equal_values, ids, are_values, two_equal, checked}
 use Rattle.id_table.specs.Settings.{settings_size, misplaced as wrong_length, table_in, lent, lent_in}
-use Rattle.id_table.specs.declared.Lent.{Lent}
-use Rattle.id_table.specs.declared.Lent.TheVariants as L
+use Rattle.id_table.specs.Lent.{Lent}
+use Rattle.id_table.specs.Lent as L
 use Rattle.id_table.proofs.Laws.{id-tables}
 use Rattle.ids.specs.declared.Ids.{Ids}
 use Rattle.record.specs.Narrow.{U32, U64, NarrowIds}

@@ -12,8 +12,8 @@ use Rattle.protocol.specs.Features.{features_of}
 use Rattle.protocol.specs.Ids.{published}
 use Rattle.protocol.specs.Messages.{stat, sta2, list, lis2, recv, ask, rcv2, send, snd2, chunk, done, quit}
 use Rattle.id_table.specs.Settings.{lent_in}
-use Rattle.id_table.specs.declared.Lent.{Lent}
-use Rattle.id_table.specs.declared.Lent.TheVariants as L
+use Rattle.id_table.specs.Lent.{Lent}
+use Rattle.id_table.specs.Lent as L
 use Rattle.session.specs.Host.{Show, told, read, write_rx, write_lent, write_bytes, close}
 use Rattle.boundary.specs.Crossing.{Crossed}
 use Rattle.boundary_misuse.specs.Functions.{Functions, session_functions}

@@ -1,20 +1,14 @@
--- What an arm of a `match` on an answer or on a reply comes to. Assumes nothing.
+-- What an arm of a `match` on a reply comes to. Assumes nothing.
 use mathlib.Core.List.{List, []}
-use mathlib.Core.Path.{◌≡◌, sym, ap, ◌∙◌}
+use mathlib.Core.Path.{◌≡◌, sym, ap}
 use Prim.Native.Nat.{ℕ}
 use native.Mathlib.Omega.{arith}
 use Rattle.protocol.specs.Bytes.{over, put}
 use Rattle.protocol.proofs.Bytes.{put_in}
-use Rattle.boundary.specs.Told.{answer_words, reply_number, reply_bytes}
-use Rattle.record.specs.Record.{words}
-use Rattle.session.specs.declared.Answer.{Answer}
+use Rattle.boundary.specs.Told.{reply_number, reply_bytes}
 use Rattle.session.specs.declared.Reply.{Reply}
 
--- the words of y, where x is y
-pub answer-of : {x y : Answer} {l : List ℕ} (b : List ℕ) → x ≡ y → l ≡ put b 0 (words (answer_words y)) → l ≡ put b 0 (words (answer_words x))
-answer-of b e h = h ∙ ap (λ a. put b 0 (words (answer_words a))) (sym e)
-
--- ... and the bytes and the number of a reply
+-- the bytes and the number of a reply
 pub reply-of : {x : Reply} {l : List ℕ} {n : ℕ} (b : List ℕ) (y : Reply) → x ≡ y → l ≡ put b 0 (reply_bytes y) → n ≡ reply_number y
     → ◌≡◌ {A = List ℕ × ℕ} (l, n) (put b 0 (reply_bytes x), reply_number x)
 reply-of b y e h k = rw (h, k) (ap (λ (r : Reply). (put b 0 (reply_bytes r), reply_number r)) (sym e))

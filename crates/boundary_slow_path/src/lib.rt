@@ -1,21 +1,36 @@
 // The slow path of a step: the session is loaded from its record, steps, and is stored again.
 #![tactic(auto)]
 
-ghost use Rattle.std.specs.Prelude.{◌≡◌};
+ghost use Rattle.std.specs.Prelude.{◌≡◌, ltb, length};
+ghost use Rattle.std.proofs.Math.Option.{none};
+ghost use Rattle.protocol.specs.Bytes.{pick};
 ghost use Rattle.boundary.specs.Crossing.{crossed, cross_start, cross_wrote, cross_fault};
+ghost use Rattle.boundary.specs.Told.{out_size};
+ghost use Rattle.record.specs.Record.{loaded};
+ghost use Rattle.record_load.specs.Found.{found};
 ghost use Rattle.boundary_slow_path.specs.Slow.{slow_read};
 
 use boundary::REPLY;
 use boundary_calls::{begin, fault_of};
 use boundary_write_back::give_back;
-use record_load::{Loaded, load};
+use record_load::load;
+use session::Session;
 use session_faults::fault;
 use session_reports::{read, wrote};
 
-// 3, told: that slice, or a record that holds no session.
+// 3, told, as the number that crosses to C: that slice, or a record that holds no session.
 const AWAY: u32 = 768;
 
+// The session in the record; none where the slice is too short for a reply. Each step below is called for itself, and not as a closure: no clause can
+// say what a closure leaves in the two buffers that it would capture.
+fn entered(rec: &[u8], out: &[u8]) -> Option<Session>
+    ensures { found result ≡ pick (ltb (length out.now) out_size) none (loaded rec.now) }
+{
+    if out.len() < REPLY { None } else { load(rec) }
+}
+
 // A call is started, by its number.
+#[tactic(auto, using(crate::proofs::Crossings::cross_away), unfolding(boundary::specs::Crossing::cross_start))]
 pub fn slow_start(
     rec: &mut [u8],
     rx: &mut [u8],
@@ -28,20 +43,14 @@ pub fn slow_start(
 ) -> u32
     ensures { crossed rec.new rx.new msg.new out.new result ≡ cross_start rec.old rx.old msg.old lent.now call a b out.old }
 {
-    if out.len() < REPLY {
+    let Some(s) = entered(rec, out) else {
         return AWAY;
-    }
-    let loaded = load(rec);
-    match loaded {
-        Loaded::Unknown => AWAY,
-        Loaded::Session(s) => {
-            let stepped = begin(s, rx, msg, call, a, b, lent);
-            give_back(stepped, rec, out)
-        }
-    }
+    };
+    give_back(begin(s, rx, msg, call, a, b, lent), rec, out)
 }
 
 // count bytes were read into the window.
+#[tactic(auto, using(crate::proofs::Crossings::cross_away), unfolding(crate::specs::Slow::slow_read))]
 pub fn slow_read(
     rec: &mut [u8],
     rx: &mut [u8],
@@ -52,37 +61,25 @@ pub fn slow_read(
 ) -> u32
     ensures { crossed rec.new rx.new msg.new out.new result ≡ slow_read rec.old rx.old msg.old lent.now count out.old }
 {
-    if out.len() < REPLY {
+    let Some(s) = entered(rec, out) else {
         return AWAY;
-    }
-    let loaded = load(rec);
-    match loaded {
-        Loaded::Unknown => AWAY,
-        Loaded::Session(s) => {
-            let stepped = read(s, rx, msg, lent.len(), count);
-            give_back(stepped, rec, out)
-        }
-    }
+    };
+    give_back(read(s, rx, msg, lent.len(), count), rec, out)
 }
 
 // The write or the close that was asked for was accepted.
+#[tactic(auto, using(crate::proofs::Crossings::cross_away), unfolding(boundary::specs::Crossing::cross_wrote))]
 pub fn slow_wrote(rec: &mut [u8], rx: &mut [u8], msg: &mut [u8], lent: &[u8], out: &mut [u8]) -> u32
     ensures { crossed rec.new rx.new msg.new out.new result ≡ cross_wrote rec.old rx.old msg.old lent.now out.old }
 {
-    if out.len() < REPLY {
+    let Some(s) = entered(rec, out) else {
         return AWAY;
-    }
-    let loaded = load(rec);
-    match loaded {
-        Loaded::Unknown => AWAY,
-        Loaded::Session(s) => {
-            let stepped = wrote(s, rx, msg, lent);
-            give_back(stepped, rec, out)
-        }
-    }
+    };
+    give_back(wrote(s, rx, msg, lent), rec, out)
 }
 
 // What was asked for came to a fault: kind 0 closed, any other an error with its code.
+#[tactic(auto, using(crate::proofs::Crossings::cross_away), unfolding(boundary::specs::Crossing::cross_fault))]
 pub fn slow_fault(
     rec: &mut [u8],
     rx: &mut [u8],
@@ -94,16 +91,12 @@ pub fn slow_fault(
 ) -> u32
     ensures { crossed rec.new rx.new msg.new out.new result ≡ cross_fault rec.old rx.old msg.old lent.now kind code out.old }
 {
-    if out.len() < REPLY {
+    let Some(s) = entered(rec, out) else {
         return AWAY;
-    }
-    let loaded = load(rec);
-    match loaded {
-        Loaded::Unknown => AWAY,
-        Loaded::Session(s) => {
-            let e = fault_of(kind, code);
-            let stepped = fault(s, rx, msg, lent.len(), e);
-            give_back(stepped, rec, out)
-        }
-    }
+    };
+    give_back(
+        fault(s, rx, msg, lent.len(), fault_of(kind, code)),
+        rec,
+        out,
+    )
 }

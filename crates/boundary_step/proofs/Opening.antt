@@ -9,8 +9,8 @@ use Rattle.protocol.specs.Bytes.{pick}
 use Rattle.protocol.specs.Features.{features_of}
 use Rattle.boundary.specs.Crossing.{opened_with, cross_open}
 use Rattle.id_table.specs.Settings.{lent_in}
-use Rattle.id_table.specs.declared.Lent.{Lent}
-use Rattle.id_table.specs.declared.Lent.TheVariants as L
+use Rattle.id_table.specs.Lent.{Lent}
+use Rattle.id_table.specs.Lent as L
 use Rattle.ids.specs.declared.Ids.{Ids}
 use Rattle.record.specs.Record.{size, stored}
 use Rattle.session.specs.Calls.{fresh, open_refusal}

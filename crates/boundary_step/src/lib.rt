@@ -8,7 +8,6 @@ ghost use Rattle.fast_read.specs.Short.{short_in};
 ghost use Rattle.boundary_step.specs.Opened.{open_crossed};
 
 use boundary::REPLY;
-use boundary_reply::put_two;
 use boundary_slow_path::{slow_fault, slow_read, slow_start, slow_wrote};
 use fast_pull::{body, header, next};
 use fast_push::{header_out, part_out, whole_out};
@@ -16,15 +15,16 @@ use fast_read::short_tail;
 use fast_replies::{entry, stat};
 use fast_request::request;
 use fast_sent::sent;
-use id_table::{Lent, table_in};
+use format_number::put_u64s;
+use id_table::table_in;
 use record::SIZE;
 use record_store::{store, store_tail};
-use session_calls::{fresh, open_refusal};
+use session_calls::{check_open, fresh};
 
-// The answer to a record of another length.
+// The answer to a record of another length: a number, as it crosses to C.
 const OTHER_LENGTH: u32 = 3;
 
-// What a step that takes a fast path asks or tells.
+// What a step that takes a fast path asks or tells, by the numbers of the C interface, which also gives each step its slices apart.
 const TOLD: u32 = 0;
 
 const READ: u32 = 1;
@@ -40,17 +40,15 @@ const WRITE_BYTES: u32 = 4;
 pub fn session_open(rec: &mut [u8], settings: &[u8], banner: &[u8], rx: usize, msg: usize) -> u32
     ensures { open_crossed rec.new result ≡ cross_open rec.old settings.now banner.now rx msg }
 {
-    let n = open_refusal(rx, msg);
-    if 0 < n {
-        return n as u32;
+    if let Err(misuse) = check_open(rx, msg) {
+        return misuse.number() as u32;
     }
     if rec.len() != SIZE {
         return OTHER_LENGTH;
     }
-    let lent = table_in(settings);
-    match lent {
-        Lent::Refused(k) => k as u32,
-        Lent::Ids(ids) => {
+    match table_in(settings) {
+        Err(why) => why.number(),
+        Ok(ids) => {
             let s = fresh(banner, ids, rx, msg);
             store(s, rec);
             0
@@ -131,16 +129,15 @@ fn read_short(
 ) -> u32
     ensures { crossed rec.new rx.new msg.new out.new result ≡ cross_read rec.old rx.old msg.old lent.now count out.old }
 {
-    let tail = short_tail(rec, rx.len(), msg.len(), lent.len(), count);
-    if tail == 0 {
+    let Some(tail) = short_tail(rec, rx.len(), msg.len(), lent.len(), count) else {
         return read_met(rec, rx, msg, lent, count, out);
-    }
+    };
     if out.len() < REPLY {
         return slow_read(rec, rx, msg, lent, count, out);
     }
     let len = rx.len() - tail;
     store_tail(rec, tail);
-    put_two(out, tail as u64, len as u64);
+    put_u64s(out, 0, [tail as u64, len as u64]);
     READ
 }
 

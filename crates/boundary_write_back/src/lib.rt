@@ -10,58 +10,19 @@ use boundary_reply::tell;
 use record_store::store;
 use session::{Answer, Reply, Stepped};
 
-fn is_refused(a: Answer) -> bool
-    ensures { result ≡ is_refusal (Reply.Told a) }
-{
-    match a {
-        Answer::Done => false,
-        Answer::End => false,
-        Answer::StatV1(_) => false,
-        Answer::StatV2(_) => false,
-        Answer::EntryV1 {
-            stat: _,
-            at: _,
-            len: _,
-        } => false,
-        Answer::EntryV2 {
-            stat: _,
-            at: _,
-            len: _,
-        } => false,
-        Answer::Chunk { at: _, len: _ } => false,
-        Answer::Refused(_) => true,
-        Answer::Missing(_) => true,
-        Answer::Closed => false,
-        Answer::Error(_) => false,
-        Answer::Fail(_) => false,
-        Answer::Unexpected(_, _, _, _) => false,
-        Answer::Errno(_) => false,
-        Answer::TooLarge => false,
-    }
-}
-
 fn is_refusal(reply: Reply) -> bool
     ensures { result ≡ is_refusal reply }
 {
-    match reply {
-        Reply::Told(a) => is_refused(a),
-        Reply::Read { at: _, len: _ } => false,
-        Reply::WriteRx { at: _, len: _ } => false,
-        Reply::WriteLent { at: _, len: _ } => false,
-        Reply::WriteBytes(_) => false,
-        Reply::Close => false,
-    }
+    matches!(reply, Reply::Told(Answer::Refused(_) | Answer::Missing(_)))
 }
 
 // The session into the record, the reply into out; a refusal leaves the record as it was, and so does a record of another length.
+#[tactic(auto, unfolding(crate::specs::Back::back_into))]
 pub fn give_back(stepped: Stepped, rec: &mut [u8], out: &mut [u8]) -> u32
     ensures { (rx msg : List ℕ) → crossed rec.new rx msg out.new result ≡ back_into rec.old out.old (S.out stepped rx msg) }
 {
-    let reply = stepped.reply;
-    if is_refusal(reply) {
-        return tell(reply, out);
+    if !is_refusal(stepped.reply) {
+        store(stepped.session, rec);
     }
-    let session = stepped.session;
-    store(session, rec);
-    tell(reply, out)
+    tell(stepped.reply, out)
 }

@@ -1,17 +1,17 @@
 -- Laws of the date of a day, one year or one month on, of what crosses, and of numbers put one behind the other. Assumes nothing.
 use mathlib.Core.Bool.{Bool, true, false}
-use mathlib.Core.List.{List, ◌++◌}
+use mathlib.Core.List.{List, [], ◌∷◌, append_assoc, append-nil}
 use mathlib.Core.Path.{◌≡◌, refl, sym, ap, ◌∙◌}
 use Prim.Native.Nat.{ℕ, zero, suc, ◌+◌, ◌-◌, ◌≤◌, ◌<◌}
 use native.Mathlib.Omega.{arith}
 use borrow.Author.Tests.{lt-ltb, le-ltb, le-leb, ltb-false}
 use lib.Dec.{ltb}
 use lib.ListN.{length, get_or-eq_default}
-use Rattle.protocol.specs.Bytes.{pick, bytes_of, put}
+use Rattle.protocol.specs.Bytes.{pick, put}
 use Rattle.protocol.specs.Hours.{day_at, weekday, minute_at}
-use Rattle.protocol.proofs.Bytes.{put-put}
+use Rattle.format_number.specs.Words.{words}
 use Rattle.calendar.specs.Calendar.{Date, date, year_length, month_length, month_from, year_from, date_of}
-use Rattle.calendar.specs.Crossing.{reply_size, misplaced, laid, date_bytes, cross_date}
+use Rattle.calendar.specs.Crossing.{reply_size, misplaced, laid, five, date_bytes, cross_date}
 use Rattle.calendar.proofs.Calendar.{year-least}
 use Rattle.calendar.proofs.Crossing.{short}
 
@@ -101,6 +101,5 @@ module _ (t : ℕ) (out : List ℕ) where
 
 -- ---- numbers one behind the other
 
-pub put-behind : {l l' : List ℕ} (b : List ℕ) (at : ℕ) (m : List ℕ) (x : ℕ) → l ≡ put b 0 m → l' ≡ put l at (bytes_of 8 x)
-    → length m ≡ at → at + 8 ≤ length b → l' ≡ put b 0 (m ++ bytes_of 8 x)
-put-behind b at m x p q e h = q ∙ ap (λ (l : List ℕ). put l at (bytes_of 8 x)) p ∙ put-put b 0 at m (bytes_of 8 x) (omega arith) (omega arith)
+pub five-words : (a b c d e : ℕ) → words (a ∷ b ∷ c ∷ d ∷ e ∷ []) ≡ five a b c d e
+five-words a b c d e = simp (append_assoc, append-nil)

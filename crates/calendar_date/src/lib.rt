@@ -2,19 +2,15 @@
 #![tactic(auto)]
 
 ghost use Rattle.std.specs.Prelude.{◌≡◌, ◌<◌, ◌≤◌};
-ghost use Rattle.protocol.specs.Bytes.{put};
 ghost use Rattle.calendar.specs.Calendar.{date, leap, year_length, february, month_length, month_from, date_of};
-ghost use Rattle.calendar.specs.Crossing.{laid, five, cross_date};
+ghost use Rattle.calendar.specs.Crossing.{laid, cross_date};
 
-use format_number::put_u64;
+use format_number::put_u64s;
 
-// The length that a slice for a reply has at least, and the answer where it is shorter.
+// The length that a slice for a reply has at least, and the answer where it is shorter, by the number that crosses to C.
 const REPLY: usize = 120;
 
 const MISPLACED: u32 = 3;
-
-// The length of five numbers.
-const FIVE: usize = 40;
 
 const EPOCH_YEAR: u32 = 1970;
 
@@ -51,73 +47,57 @@ struct MonthDay {
 }
 
 // Every fourth year, of the hundreds every fourth.
+#[tactic(auto, unfolding(calendar::specs::Calendar::leap))]
 fn is_leap(year: u32) -> bool
     ensures { result ≡ leap year }
 {
-    if year % 4 != 0 {
-        return false;
-    }
-    if year % 100 != 0 {
-        return true;
-    }
-    year % 400 == 0
+    year % 4 == 0 && (year % 100 != 0 || year % 400 == 0)
 }
 
+#[tactic(auto, unfolding(calendar::specs::Calendar::year_length))]
 fn year_length(year: u32) -> u32
     ensures { result ≡ year_length year }
 {
     if is_leap(year) {
-        return LEAP_YEAR;
+        LEAP_YEAR
+    } else {
+        COMMON_YEAR
     }
-    COMMON_YEAR
 }
 
 fn february_length(year: u32) -> u32
     ensures { result ≡ february (leap year) }
 {
-    if is_leap(year) {
-        return 29;
-    }
-    28
+    if is_leap(year) { 29 } else { 28 }
 }
 
 // 0 for what is no month.
+#[tactic(auto, unfolding(calendar::specs::Calendar::month_length))]
 fn month_length(year: u32, month: u32) -> u32
     ensures { result ≡ month_length year month }
 {
     match month {
-        1 => 31,
         2 => february_length(year),
-        3 => 31,
-        4 => 30,
-        5 => 31,
-        6 => 30,
-        7 => 31,
-        8 => 31,
-        9 => 30,
-        10 => 31,
-        11 => 30,
-        12 => 31,
+        4 | 6 | 9 | 11 => 30,
+        1 | 3 | 5 | 7 | 8 | 10 | 12 => 31,
         _ => 0,
     }
 }
 
-// The year of a day, by its number from 1970-01-01 on, and the day in that year.
+// The year of a day, by its number from 1970-01-01 on, and the day in that year. A `while`: no range of years is known beforehand.
 fn year_of(number: u32) -> YearDay
     ensures { (month_from 11 result.year 1 result.day ≡ date_of number) × (result.day < 366) }
 {
     let mut year = EPOCH_YEAR;
     let mut day = number;
     let mut length = year_length(year);
+    // no `for`: no last year is known, the days that are left end the loop
     while length <= day {
         day -= length;
         year += 1;
         length = year_length(year);
     }
-    YearDay {
-        year: year,
-        day: day,
-    }
+    YearDay { year, day }
 }
 
 // The month of a day of a year, and the day in that month.
@@ -125,39 +105,23 @@ fn month_of(year: u32, number: u32) -> MonthDay
     requires { number < 366 }
     ensures { date result.year result.month result.day ≡ month_from 11 year 1 number }
 {
-    let mut month = 1;
     let mut day = number;
-    while month < LAST_MONTH {
+    for month in 1..LAST_MONTH {
         let length = month_length(year, month);
         if day < length {
             return MonthDay {
-                year: year,
-                month: month,
+                year,
+                month,
                 day: day + 1,
             };
         }
         day -= length;
-        month += 1;
     }
     MonthDay {
-        year: year,
-        month: month,
+        year,
+        month: LAST_MONTH,
         day: day + 1,
     }
-}
-
-// Five numbers at the front; nothing where they do not fit.
-fn put_five(out: &mut [u8], a: u64, b: u64, c: u64, d: u64, e: u64)
-    ensures { out.new ≡ put out.old 0 (five a b c d e) }
-{
-    if out.len() < FIVE {
-        return;
-    }
-    put_u64(out, 0, a);
-    put_u64(out, 8, b);
-    put_u64(out, 16, c);
-    put_u64(out, 24, d);
-    put_u64(out, 32, e);
 }
 
 // Year, month, day, weekday and minute of a moment, in seconds from 1970-01-01 on, into out: 0, or 3 and nothing is altered.
@@ -172,13 +136,13 @@ pub fn date_of(moment: u32, out: &mut [u8]) -> u32
     let minute = moment % DAY / MINUTE;
     let y = year_of(number);
     let d = month_of(y.year, y.day);
-    put_five(
-        out,
+    let numbers = [
         d.year as u64,
         d.month as u64,
         d.day as u64,
         weekday as u64,
         minute as u64,
-    );
+    ];
+    put_u64s(out, 0, numbers);
     0
 }

@@ -75,7 +75,7 @@ use Rattle.id_table.specs.Claim.{IdTables}
 use Rattle.id_table.specs.Facts as IdFacts
 use Rattle.id_table.specs.IdsFile.{ids, ids_in}
 use Rattle.id_table.specs.Settings.{table_from, lent_in}
-use Rattle.id_table.specs.declared.Lent.TheVariants as Lent
+use Rattle.id_table.specs.Lent as Lent
 use Rattle.id_table.proofs.Facts as IdRows
 use Rattle.id_table.proofs.Laws as Tables
 use Rattle.hours.specs.Claim.{HoursFiles}

@@ -11,7 +11,7 @@ use Rattle.hours.specs.Slots.{hours_bytes}
 use Rattle.hours.proofs.Laws.{hours-files}
 use Rattle.id_table.specs.IdsFile.{ids, ids_in}
 use Rattle.id_table.specs.Settings.{table_from, lent_in}
-use Rattle.id_table.specs.declared.Lent.TheVariants as L
+use Rattle.id_table.specs.Lent as L
 use Rattle.id_table.proofs.Laws.{id-tables}
 use Rattle.ids.specs.Ids.{ids_of}
 use Rattle.boundary.specs.Crossing.{cross_ids, cross_open}

@@ -1,10 +1,8 @@
--- The number that a `Parsed` gives, if any.
+-- The number that a parser gives, if any.
 -- Assumes nothing.
-use Rattle.std.specs.Prelude.{ℕ}
-use Rattle.std.proofs.Math.Option.{Option, none, some}
-use Rattle.decimal.specs.declared.Parsed.{Parsed}
-use Rattle.decimal.specs.declared.Parsed.TheVariants.{Number, Invalid}
+use Rattle.std.specs.Prelude.{ℕ, Option, Some, None}
+use Rattle.std.proofs.Math.Option as M
 
-abbrev pub parsed : Parsed → Option ℕ
-parsed (Number n) = some n
-parsed Invalid = none
+abbrev pub parsed : Option ℕ → M.Option ℕ
+parsed (Some n) = M.some n
+parsed None = M.none

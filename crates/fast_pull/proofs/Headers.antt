@@ -31,6 +31,9 @@ use Rattle.session.specs.declared.Pending.TheVariants.{Reading}
 use Rattle.session.specs.declared.Phase.TheVariants.{Header, Body}
 use Rattle.session.specs.declared.Reply.TheVariants as R
 use Rattle.session.specs.declared.Want.TheVariants as W
+use Rattle.std.specs.Prelude.{Option, Some, None}
+use Rattle.fast_record.proofs.Found.{none-found, some_found}
+use Rattle.fast_record.specs.Found.{found}
 use Rattle.fast_record.specs.Standing.{number_in, Stands, step_of}
 use Rattle.fast_record.proofs.Laws.{number-in, stands-in}
 use Rattle.fast_pull.specs.Chunks.{body_short, short_length, header_came, header_done, header_now}
@@ -57,20 +60,20 @@ module _ (d : Dialect) (x : List ℕ) (c : ℕ) where
   unfolding short_length
   length-in e = rw e
 
-  module _ (n : ℕ) (f : n ≡ short_length d x c) where
-    pub not_short : n ≡ 0 → body_short d x c ≡ false
+  module _ (r : Option ℕ) (f : r ≡ found (short_length d x c)) where
+    pub not_short : r ≡ None → body_short d x c ≡ false
     not_short z = go (body_short d x c) refl
       where
         go : (b : Bool) → body_short d x c ≡ b → b ≡ false
-        go true p = let i = length-in p in absurd (omega (arith, f, i))
+        go true p = let i = length-in p in absurd (omega (arith, none-found (short_length d x c) f z, i))
         go false p = refl
 
-    pub short-at : 0 < n → (body_short d x c ≡ true) × (n ≡ 8 + arg_at x)
-    short-at h = go (body_short d x c) refl
+    pub short-at : {n : ℕ} → r ≡ Some n → (body_short d x c ≡ true) × (n ≡ 8 + arg_at x)
+    short-at {n = n} z = let (h, l) = some_found (short_length d x c) f z in go (body_short d x c) refl h l
       where
-        go : (b : Bool) → body_short d x c ≡ b → (b ≡ true) × (n ≡ 8 + arg_at x)
-        go true p = (refl, f ∙ sym (length-in p))
-        go false p = let i = length-out p in absurd (omega (arith, f, i))
+        go : (b : Bool) → body_short d x c ≡ b → short_length d x c ≡ n → 0 < n → (b ≡ true) × (n ≡ 8 + arg_at x)
+        go true p h l = (refl, sym h ∙ sym (length-in p))
+        go false p h l = let i = length-out p in absurd (omega (arith, h, i, l))
 
 -- the numbers of the step, as the code has them
 pub awaited : (flag f until u register n : ℕ) → flag ≡ f → until ≡ u → register ≡ n → step_of 28 flag until 0 0 register ≡ step_of 28 f u 0 0 n

@@ -28,10 +28,6 @@ next_now rec rx msg call out =
 
 -- ---- a read that completes the header
 
--- where tail comes to with k more bytes; 0 where they do not meet the need
-unfoldable pub end_of : (rec rx : List ℕ) → (k : ℕ) → ℕ
-end_of rec rx k = pick (met_by rec rx k) (number_in rec TAIL + k) 0
-
 -- x begins with a chunk that fits c bytes, and has not all of it
 abbrev pub body_short : Dialect → (x : List ℕ) → (c : ℕ) → Bool
 body_short d x c = heads d (d.bytes DATA) x && leb (8 + arg_at x) c && ltb (length x) (8 + arg_at x)

@@ -6,15 +6,15 @@ ghost use Rattle.std.specs.Prelude.{◌≡◌, ℕ, ◌≤◌, length};
 ghost use Rattle.boundary.specs.Crossing.{crossed, cross_start, cross_read};
 ghost use Rattle.fast_replies.specs.Direct.{tried, dialect_held};
 ghost use Rattle.record.specs.Record.{size};
+ghost use Rattle.fast_record.specs.Found.{found};
 ghost use Rattle.fast_record.specs.Standing.{number_in};
-ghost use Rattle.fast_pull.specs.Chunks.{next_done, next_now, end_of, short_length, header_done, header_now, body_done, body_now};
+ghost use Rattle.fast_pull.specs.Chunks.{next_done, next_now, short_length, header_done, header_now, body_done, body_now};
 
-use boundary_reply::{put_three, put_two};
-use fast_record::{fits, id_in, is_idle, number, store_plain, store_step};
-use fast_replies::heads;
+use fast_record::{Step, fits, id_in, is_idle, number, store_step};
+use fast_replies::{heads, met};
 use format_id::SyncId;
-use format_number::u32_at;
-use record::{CHUNK_BODY, CHUNK_HEADER, FLAG, HEAD, IDLE, LENT, REGISTER, STATE, TAIL, UNTIL};
+use format_number::{put_u64s, u32_at};
+use record::{CHUNK_BODY, CHUNK_HEADER, FLAG, HEAD, LENT, REGISTER, STATE, TAIL};
 
 // ---- the header is awaited
 
@@ -23,65 +23,44 @@ fn await_header(rec: &mut [u8], rx: usize, lent: usize, out: &mut [u8]) -> bool
     requires { length rec.old ≡ size }
     ensures { (result, rec.new, out.new) ≡ next_done rec.old rx lent out.old }
 {
-    if number(rec, HEAD) == number(rec, TAIL) {
-        put_two(out, 0, rx as u64);
-        store_plain(rec, 0, 0, lent, CHUNK_HEADER, 8);
-        return true;
+    if number(rec, HEAD) != number(rec, TAIL) {
+        return false;
     }
-    false
+    put_u64s(out, 0, [0, rx as u64]);
+    let step = Step {
+        state: CHUNK_HEADER,
+        until: 8,
+        ..Step::IDLE
+    };
+    store_step(rec, 0, 0, lent, step);
+    true
 }
 
 // Call 14: true where the step is taken, false where nothing is altered.
 pub fn next(rec: &mut [u8], rx: &[u8], msg: &[u8], lent: &[u8], call: u32, out: &mut [u8]) -> bool
     ensures { (a b : ℕ) → (result, crossed rec.new rx.now msg.now out.new 1) ≡ tried (next_now rec.old rx.now msg.now call out.old) (cross_start rec.old rx.now msg.now lent.now call a b out.old) (crossed rec.old rx.now msg.now out.old 1) }
 {
-    if call == 14 {
-        if is_idle(rec, rx.len(), msg.len(), out.len()) {
-            return await_header(rec, rx.len(), lent.len(), out);
-        }
-        return false;
+    if call == 14 && is_idle(rec, rx.len(), msg.len(), out.len()) {
+        return await_header(rec, rx.len(), lent.len(), out);
     }
     false
 }
 
 // ---- a read that completes the header
 
-// Where tail comes to with count more bytes; 0 where they do not meet the need.
-fn met(rec: &[u8], rx: &[u8], count: usize) -> usize
-    requires { number_in rec.now 3 ≤ length rx.now }
-    ensures { result ≡ end_of rec.now rx.now count }
+// How many bytes the chunk at the front of x takes, its header included, where it fits capacity and x has not all of it.
+fn short_len(rec: &[u8], x: &[u8], capacity: usize) -> Option<usize>
+    ensures { result ≡ found (short_length (dialect_held rec.now) x.now capacity) }
 {
-    let tail = number(rec, TAIL);
-    if count == 0 {
-        return 0;
+    if !heads(rec, id_in(rec, SyncId::Data), x) {
+        return None;
     }
-    let free = rx.len() - tail;
-    if free < count {
-        return 0;
+    let n = u32_at(x, 4) as usize;
+    let whole = 8 + n;
+    if capacity < whole || whole <= x.len() {
+        return None;
     }
-    let end = tail + count;
-    if end < number(rec, UNTIL) {
-        return 0;
-    }
-    end
-}
-
-// How many bytes the chunk at the front of x takes, its header included, where it fits capacity and x has not all of it; 0 where not.
-fn short_len(rec: &[u8], x: &[u8], capacity: usize) -> usize
-    ensures { result ≡ short_length (dialect_held rec.now) x.now capacity }
-{
-    if heads(rec, id_in(rec, SyncId::Data), x) {
-        let n = u32_at(x, 4) as usize;
-        let whole = 8 + n;
-        if capacity < whole {
-            return 0;
-        }
-        if x.len() < whole {
-            return whole;
-        }
-        return 0;
-    }
-    0
+    Some(whole)
 }
 
 // Asks for the rest of the chunk at head, with count more bytes behind tail; nothing where there is no header, or no rest, or no room.
@@ -89,29 +68,35 @@ fn await_body(rec: &mut [u8], rx: &[u8], count: usize, out: &mut [u8]) -> bool
     requires { (length rec.old ≡ size) × (number_in rec.old 2 ≤ number_in rec.old 3) × (number_in rec.old 3 ≤ length rx.now) }
     ensures { (result, rec.new, out.new) ≡ header_done rec.old rx.now count out.old }
 {
-    let end = met(rec, rx, count);
-    if end == 0 {
+    let Some(end) = met(rec, rx, count) else {
+        return false;
+    };
+    if rx.len() <= end {
         return false;
     }
-    if end < rx.len() {
-        let head = number(rec, HEAD);
-        let whole = short_len(rec, &rx[head..end], rx.len());
-        if whole == 0 {
-            return false;
-        }
-        let lent = number(rec, LENT);
-        let flag = number(rec, FLAG);
-        let n = whole - 8;
-        let until = head + whole;
-        let len = rx.len() - end;
-        put_two(out, end as u64, len as u64);
-        store_step(rec, head, end, lent, CHUNK_BODY, flag, until, 0, 0, n);
-        return true;
-    }
-    false
+    let head = number(rec, HEAD);
+    let Some(whole) = short_len(rec, &rx[head..end], rx.len()) else {
+        return false;
+    };
+    let lent = number(rec, LENT);
+    let flag = number(rec, FLAG);
+    let until = head + whole;
+    let register = whole - 8;
+    let len = rx.len() - end;
+    put_u64s(out, 0, [end as u64, len as u64]);
+    let step = Step {
+        state: CHUNK_BODY,
+        flag,
+        until,
+        register,
+        ..Step::IDLE
+    };
+    store_step(rec, head, end, lent, step);
+    true
 }
 
-// count bytes were read into the window of a chunk whose header is awaited.
+// count bytes were read into the window of a chunk whose header is awaited. Two functions, this and `body`, since their clauses speak of two
+// definitions, `header_now` and `body_now`: with the step as a closure both would be no shorter.
 pub fn header(
     rec: &mut [u8],
     rx: &[u8],
@@ -122,11 +107,8 @@ pub fn header(
 ) -> bool
     ensures { (result, crossed rec.new rx.now msg.now out.new 1) ≡ tried (header_now rec.old rx.now msg.now lent.now count out.old) (cross_read rec.old rx.now msg.now lent.now count out.old) (crossed rec.old rx.now msg.now out.old 1) }
 {
-    if number(rec, STATE) == CHUNK_HEADER {
-        if fits(rec, rx.len(), msg.len(), lent.len(), out.len()) {
-            return await_body(rec, rx, count, out);
-        }
-        return false;
+    if number(rec, STATE) == CHUNK_HEADER && fits(rec, rx.len(), msg.len(), lent.len(), out.len()) {
+        return await_body(rec, rx, count, out);
     }
     false
 }
@@ -138,10 +120,9 @@ fn tell_chunk(rec: &mut [u8], rx: &[u8], count: usize, out: &mut [u8]) -> bool
     requires { (length rec.old ≡ size) × (number_in rec.old 2 ≤ number_in rec.old 3) × (number_in rec.old 3 ≤ length rx.now) }
     ensures { (result, rec.new, out.new) ≡ body_done rec.old rx.now count out.old }
 {
-    let end = met(rec, rx, count);
-    if end == 0 {
+    let Some(end) = met(rec, rx, count) else {
         return false;
-    }
+    };
     let head = number(rec, HEAD);
     let held = end - head;
     let n = number(rec, REGISTER) % 0x1_0000_0000;
@@ -152,8 +133,8 @@ fn tell_chunk(rec: &mut [u8], rx: &[u8], count: usize, out: &mut [u8]) -> bool
     let lent = number(rec, LENT);
     let at = head + 8;
     let next = head + whole;
-    put_three(out, 6, at as u64, n as u64);
-    store_plain(rec, next, end, lent, IDLE, 0);
+    put_u64s(out, 0, [6, at as u64, n as u64]);
+    store_step(rec, next, end, lent, Step::IDLE);
     true
 }
 
@@ -168,11 +149,8 @@ pub fn body(
 ) -> bool
     ensures { (result, crossed rec.new rx.now msg.now out.new 0) ≡ tried (body_now rec.old rx.now msg.now lent.now count out.old) (cross_read rec.old rx.now msg.now lent.now count out.old) (crossed rec.old rx.now msg.now out.old 0) }
 {
-    if number(rec, STATE) == CHUNK_BODY {
-        if fits(rec, rx.len(), msg.len(), lent.len(), out.len()) {
-            return tell_chunk(rec, rx, count, out);
-        }
-        return false;
+    if number(rec, STATE) == CHUNK_BODY && fits(rec, rx.len(), msg.len(), lent.len(), out.len()) {
+        return tell_chunk(rec, rx, count, out);
     }
     false
 }

@@ -10,7 +10,7 @@ use lib.ListN.{length, drop, get_or, length-take}
 use Rattle.protocol.specs.Bytes.{pick, put}
 use Rattle.protocol.specs.Ids.{DATA}
 use Rattle.protocol.specs.Messages.{data_most, word, message_of, bytes_of_request}
-use Rattle.protocol.proofs.Bytes.{put-out, put_length-in, put_length-out}
+use Rattle.protocol.proofs.Bytes.{put-out}
 use Rattle.ids.specs.Ids.{number_of}
 use Rattle.ids.specs.declared.Ids.{Ids}
 use Rattle.boundary.specs.Crossing.{crossed, back, cross_wrote}
@@ -18,6 +18,8 @@ use Rattle.boundary.specs.Told.{reply_number, out_size}
 use Rattle.fast_replies.specs.Direct.{tried}
 use Rattle.fast_replies.proofs.Taken.{ses, head-same, tail-same, lent_same, pending-at, no-report_refusal, done-tried, written-tried}
 use Rattle.request_message.proofs.Laws.{front_bytes}
+use Rattle.std.specs.Prelude.{Option, Some, None}
+use Rattle.decimal.proofs.Fitted.{fitted-in, fitted-out}
 use Rattle.request_message.specs.Composed.{only, placed}
 use Rattle.request_piece.proofs.Laws.{piece-part}
 use Rattle.request_piece.specs.Pieces.{header_of, piece_list, piece_of}
@@ -81,10 +83,10 @@ pub read_at_lem : (lent : List ℕ) {f g : ℕ} {p : List ℕ} → p ≡ carried
 read_at_lem lent q e = q ∙ ap (λ (k : ℕ). carried Q.Data k lent) e
 
 -- the next message, as it is composed
-pub composed-whole : (rec rx lent : List ℕ) {at i n : ℕ} {p x : List ℕ} → (x, n) ≡ placed rx at (bytes_of_request (only i) (meant Q.Data p))
+pub composed-whole : (rec rx lent : List ℕ) {at i : ℕ} {o : Option ℕ} {p x : List ℕ} → (x, o) ≡ placed rx at (bytes_of_request (only i) (meant Q.Data p))
     → i ≡ data_id rec → at ≡ number_in rec 3 → p ≡ next_part rec lent → number_in rec 3 ≤ length rx
     → has_room rec (length rx) (length (next_part rec lent)) ≡ true
-    → ◌≡◌ {A = List ℕ × ℕ} (x, n) (put rx (number_in rec 3) (next_bytes rec lent), 8 + length (next_part rec lent))
+    → ◌≡◌ {A = List ℕ × Option ℕ} (x, o) (put rx (number_in rec 3) (next_bytes rec lent), Some (8 + length (next_part rec lent)))
 composed-whole rec rx lent q d a e i f =
     let part = next_part rec lent in
     let m = next_bytes rec lent in
@@ -92,7 +94,7 @@ composed-whole rec rx lent q d a e i f =
     let own = bytes-own (ids_held rec) Q.Data part in
     let l : length m ≡ 8 + length part = ap length (sym own) ∙ data_length (data_id rec) part in
     let room : number_in rec 3 + length m ≤ length rx = omega (arith, r, i, l) in
-    q ∙ rw (d, a, e, own, put_length-in rx (number_in rec 3) m room, l)
+    q ∙ rw (d, a, e, own, fitted-in rx (number_in rec 3) m room, l)
 
 module _ (rec rx msg lent out : List ℕ) (k : ℕ) (e : accepted rec (length rx) (length msg) (length lent) k (length out) ≡ true) where
   a : Accepted rec (length rx) (length msg) (length lent) k (length out)
@@ -187,8 +189,8 @@ module _ (rec rx msg lent out : List ℕ) (e : accepted rec (length rx) (length 
       let short : length rx < u.ses.buf.tail + length m = omega (arith, w, tail-same rec rx msg v, data_length (data_id rec) part, stands-inside rec (length rx) (length msg) v) in
       rw i
       (ap (λ (o : Half). beside o msg)
-      (pieces-out u.ses rx Q.Data (next_in rec lent) part rx u.ses.buf (front rec rx msg lent out 2 e last g) (data_id rec) i rx 0
-      (rw (put-out rx u.ses.buf.tail m short, put_length-out rx u.ses.buf.tail m short)) refl)
+      (pieces-out u.ses rx Q.Data (next_in rec lent) part rx u.ses.buf (front rec rx msg lent out 2 e last g) (data_id rec) i rx None
+      (rw (put-out rx u.ses.buf.tail m short, fitted-out rx u.ses.buf.tail m short)) refl)
       ∙ sends rec rx msg lent out 2 e last g)
 
   pub header-tried : (t : Bool) (new told : List ℕ) → (t, new, told) ≡ header_done rec rx lent out
@@ -224,7 +226,7 @@ module _ (rec rx msg lent out : List ℕ) (e : accepted rec (length rx) (length 
       rw y
       (ap (λ (o : Half). beside o msg)
       (whole_out w.ses rx Q.Data (next_in rec lent) part rx w.ses.buf (front rec rx msg lent out 0 e whole g) (data_id rec) (own rec rx msg lent out 0 e)
-      (put rx w.ses.buf.tail (next_bytes rec lent)) (8 + length part) (sym (rw y at c)) (λ q. omega (arith, q)))
+      (put rx w.ses.buf.tail (next_bytes rec lent)) (Some (8 + length part)) (sym (rw y at c)) (8 + length part) refl)
       ∙ sends rec rx msg lent out 0 e whole g)
 
   pub whole-tried : (t : Bool) (new rx' told : List ℕ) → (t, new, rx', told) ≡ whole_done rec rx lent out

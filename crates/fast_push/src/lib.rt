@@ -10,9 +10,10 @@ ghost use Rattle.record.specs.Record.{size, words};
 ghost use Rattle.fast_record.specs.Standing.{number_in, moved_numbers};
 ghost use Rattle.fast_push.specs.Pushing.{accepted, has_room, next_in, push_step, part_done, part_now, header_done, header_now, whole_done, whole_now};
 
-use boundary_reply::{put_header_piece, put_two};
-use fast_record::{fits, id_in, number, store_step};
+use boundary_reply::put_header_piece;
+use fast_record::{Step, fits, id_in, number, store_step};
 use format_id::SyncId;
+use format_number::put_u64s;
 use record::{DATA_OUT, FROM, HEAD, LENT, PIECE, STATE, TAIL};
 use request::Request;
 use request_message::compose_at;
@@ -22,13 +23,7 @@ use session_messages::carried;
 fn accepted(rec: &[u8], rx: usize, msg: usize, lent: usize, k: usize, out: usize) -> bool
     ensures { result ≡ accepted rec.now rx msg lent k out }
 {
-    if number(rec, STATE) == DATA_OUT {
-        if number(rec, PIECE) == k {
-            return fits(rec, rx, msg, lent, out);
-        }
-        return false;
-    }
-    false
+    number(rec, STATE) == DATA_OUT && number(rec, PIECE) == k && fits(rec, rx, msg, lent, out)
 }
 
 // Data from `from` on, with the k-th piece out, is what is pending; a record of another length is left alone.
@@ -38,7 +33,13 @@ fn store_push(rec: &mut [u8], from: usize, k: usize)
     let head = number(rec, HEAD);
     let tail = number(rec, TAIL);
     let lent = number(rec, LENT);
-    store_step(rec, head, tail, lent, DATA_OUT, 0, 0, from, k, 0);
+    let step = Step {
+        state: DATA_OUT,
+        from,
+        piece: k,
+        ..Step::IDLE
+    };
+    store_step(rec, head, tail, lent, step);
 }
 
 // ---- the header was accepted: the data
@@ -54,7 +55,7 @@ fn put_part(rec: &mut [u8], lent: &[u8], out: &mut [u8]) -> bool
     if n == 0 {
         return false;
     }
-    put_two(out, from as u64, n as u64);
+    put_u64s(out, 0, [from as u64, n as u64]);
     store_push(rec, from, 2);
     true
 }
@@ -63,10 +64,7 @@ fn put_part(rec: &mut [u8], lent: &[u8], out: &mut [u8]) -> bool
 pub fn part_out(rec: &mut [u8], rx: &[u8], msg: &[u8], lent: &[u8], out: &mut [u8]) -> bool
     ensures { (result, crossed rec.new rx.now msg.now out.new 3) ≡ tried (part_now rec.old rx.now msg.now lent.now out.old) (cross_wrote rec.old rx.now msg.now lent.now out.old) (crossed rec.old rx.now msg.now out.old 3) }
 {
-    if accepted(rec, rx.len(), msg.len(), lent.len(), 1, out.len()) {
-        return put_part(rec, lent, out);
-    }
-    false
+    accepted(rec, rx.len(), msg.len(), lent.len(), 1, out.len()) && put_part(rec, lent, out)
 }
 
 // ---- a message was accepted: the next one
@@ -96,33 +94,28 @@ fn put_header(rec: &mut [u8], rx: &[u8], lent: &[u8], out: &mut [u8]) -> bool
     requires { (length rec.old ≡ size) × (number_in rec.old 3 ≤ length rx.now) }
     ensures { (result, rec.new, out.new) ≡ header_done rec.old rx.now lent.now out.old }
 {
-    if number(rec, HEAD) == 0 {
-        let from = next(rec, lent);
-        let part = carried(Request::Data, from, lent);
-        let n = part.len();
-        if n == 0 {
-            return false;
-        }
-        if has_room(rec, rx.len(), n) {
-            return false;
-        }
-        let arg = (n % 0x1_0000_0000) as u32;
-        let id = id_in(rec, SyncId::Data);
-        put_header_piece(out, id, arg);
-        store_push(rec, from, 1);
-        return true;
+    if number(rec, HEAD) != 0 {
+        return false;
     }
-    false
+    let from = next(rec, lent);
+    let part = carried(Request::Data, from, lent);
+    let n = part.len();
+    if n == 0 || has_room(rec, rx.len(), n) {
+        return false;
+    }
+    // by a remainder: an `as` loses no bits here
+    let arg = (n % 0x1_0000_0000) as u32;
+    let id = id_in(rec, SyncId::Data);
+    put_header_piece(out, id, arg);
+    store_push(rec, from, 1);
+    true
 }
 
 // The data of a DATA message was accepted.
 pub fn header_out(rec: &mut [u8], rx: &[u8], msg: &[u8], lent: &[u8], out: &mut [u8]) -> bool
     ensures { (result, crossed rec.new rx.now msg.now out.new 4) ≡ tried (header_now rec.old rx.now msg.now lent.now out.old) (cross_wrote rec.old rx.now msg.now lent.now out.old) (crossed rec.old rx.now msg.now out.old 4) }
 {
-    if accepted(rec, rx.len(), msg.len(), lent.len(), 2, out.len()) {
-        return put_header(rec, rx, lent, out);
-    }
-    false
+    accepted(rec, rx.len(), msg.len(), lent.len(), 2, out.len()) && put_header(rec, rx, lent, out)
 }
 
 // It whole, composed behind what is held; nothing where it does not fit, or would only after a compaction.
@@ -130,32 +123,26 @@ fn put_whole(rec: &mut [u8], rx: &mut [u8], lent: &[u8], out: &mut [u8]) -> bool
     requires { (length rec.old ≡ size) × (number_in rec.old 3 ≤ length rx.old) }
     ensures { (result, rec.new, rx.new, out.new) ≡ whole_done rec.old rx.old lent.now out.old }
 {
-    if number(rec, HEAD) == 0 {
-        let from = next(rec, lent);
-        let part = carried(Request::Data, from, lent);
-        let n = part.len();
-        if n == 0 {
-            return false;
-        }
-        if has_room(rec, rx.len(), n) {
-            let tail = number(rec, TAIL);
-            let id = id_in(rec, SyncId::Data);
-            let len = compose_at(rx, tail, id, Request::Data, part);
-            put_two(out, tail as u64, len as u64);
-            store_push(rec, from, 0);
-            return true;
-        }
+    if number(rec, HEAD) != 0 {
         return false;
     }
-    false
+    let from = next(rec, lent);
+    let part = carried(Request::Data, from, lent);
+    let n = part.len();
+    if n == 0 || !has_room(rec, rx.len(), n) {
+        return false;
+    }
+    let tail = number(rec, TAIL);
+    let id = id_in(rec, SyncId::Data);
+    let len = compose_at(rx, tail, id, Request::Data, part).unwrap();
+    put_u64s(out, 0, [tail as u64, len as u64]);
+    store_push(rec, from, 0);
+    true
 }
 
 // A DATA message that was composed whole was accepted.
 pub fn whole_out(rec: &mut [u8], rx: &mut [u8], msg: &[u8], lent: &[u8], out: &mut [u8]) -> bool
     ensures { (result, crossed rec.new rx.new msg.now out.new 2) ≡ tried (whole_now rec.old rx.old msg.now lent.now out.old) (cross_wrote rec.old rx.old msg.now lent.now out.old) (crossed rec.old rx.old msg.now out.old 2) }
 {
-    if accepted(rec, rx.len(), msg.len(), lent.len(), 0, out.len()) {
-        return put_whole(rec, rx, lent, out);
-    }
-    false
+    accepted(rec, rx.len(), msg.len(), lent.len(), 0, out.len()) && put_whole(rec, rx, lent, out)
 }

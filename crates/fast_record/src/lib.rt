@@ -6,16 +6,15 @@ ghost use Rattle.protocol.specs.Bytes.{pick};
 ghost use Rattle.format_id.specs.Ids.{id_of};
 ghost use Rattle.ids.specs.Ids.{number_of};
 ghost use Rattle.record.specs.Record.{size, words, loaded};
-ghost use Rattle.fast_record.specs.Standing.{number_in, standing, idle, fits, place_of, ids_held, moved_numbers, step_of, plain_step};
+ghost use Rattle.fast_record.specs.Standing.{number_in, standing, idle, fits, place_of, ids_held, moved_numbers, step_of};
 
 use boundary::REPLY;
 use format_id::SyncId;
-use format_number::{u32_at, u64_at};
+use format_number::{put_u64s, u32_at, u64_at};
 use record::{
     CAPACITY, ENDED, FEATURES, FLAG, HEAD, IDLE, LENT, MESSAGE, SIZE, STATE, STATES, TAIL,
 };
 use record_load::step_in;
-use record_store::put_four;
 
 // The i-th number of a record; 31, which is no state, where it is not 256 bytes long.
 pub fn number(rec: &[u8], i: u8) -> usize
@@ -33,23 +32,7 @@ pub fn number(rec: &[u8], i: u8) -> usize
 fn place(id: SyncId) -> usize
     ensures { result ≡ place_of (id_of id) }
 {
-    match id {
-        SyncId::Stat => 192,
-        SyncId::Sta2 => 196,
-        SyncId::List => 200,
-        SyncId::Lis2 => 204,
-        SyncId::Send => 208,
-        SyncId::Snd2 => 212,
-        SyncId::Recv => 216,
-        SyncId::Rcv2 => 220,
-        SyncId::Data => 224,
-        SyncId::Done => 228,
-        SyncId::Okay => 232,
-        SyncId::Fail => 236,
-        SyncId::Dent => 240,
-        SyncId::Dnt2 => 244,
-        SyncId::Quit => 248,
-    }
+    192 + 4 * (id as usize)
 }
 
 // The number of an id, by the table that a record holds. Each number of a record of another length is 31: so is its lower half.
@@ -74,36 +57,25 @@ pub fn stands(rec: &[u8], rx: usize, msg: usize) -> bool
 {
     let capacity = number(rec, CAPACITY);
     let message = number(rec, MESSAGE);
+    let head = number(rec, HEAD);
     let tail = number(rec, TAIL);
-    if STATES <= number(rec, STATE) {
-        return false;
-    }
-    if 128 <= number(rec, FEATURES) {
-        return false;
-    }
-    if 2 <= number(rec, FLAG) {
-        return false;
-    }
-    if capacity < tail {
-        return false;
-    }
-    if tail < number(rec, HEAD) {
-        return false;
-    }
-    if capacity < 8 {
-        return false;
-    }
-    if message < capacity {
-        return false;
-    }
-    if number(rec, ENDED) == 0 {
-        if rx == capacity {
-            if msg == message {
-                return step_in(rec);
-            }
-            return false;
-        }
-        return false;
+    let features = number(rec, FEATURES);
+    let ended = number(rec, ENDED);
+    let state = number(rec, STATE);
+    let flag = number(rec, FLAG);
+    // The last test stands apart: with it in the chain the proof didn't close.
+    if state < STATES
+        && features < 128
+        && flag < 2
+        && tail <= capacity
+        && head <= tail
+        && 8 <= capacity
+        && capacity <= message
+        && ended == 0
+        && rx == capacity
+        && msg == message
+    {
+        return step_in(rec);
     }
     false
 }
@@ -112,13 +84,7 @@ pub fn stands(rec: &[u8], rx: usize, msg: usize) -> bool
 pub fn is_idle(rec: &[u8], rx: usize, msg: usize, out: usize) -> bool
     ensures { result ≡ idle rec.now rx msg out }
 {
-    if number(rec, STATE) == IDLE {
-        if stands(rec, rx, msg) {
-            return REPLY <= out;
-        }
-        return false;
-    }
-    false
+    number(rec, STATE) == IDLE && stands(rec, rx, msg) && REPLY <= out
 }
 
 // Whether a report is let in where something is pending: the session stands, as many bytes are lent as its call had, and a reply fits its
@@ -126,64 +92,78 @@ pub fn is_idle(rec: &[u8], rx: usize, msg: usize, out: usize) -> bool
 pub fn fits(rec: &[u8], rx: usize, msg: usize, lent: usize, out: usize) -> bool
     ensures { result ≡ fits rec.now rx msg lent out }
 {
-    if stands(rec, rx, msg) {
-        if lent == number(rec, LENT) {
-            return REPLY <= out;
-        }
-        return false;
-    }
-    false
+    stands(rec, rx, msg) && lent == number(rec, LENT) && REPLY <= out
 }
 
 // ---- its session at another place
 
-// The session at another place of its buffer, with so many bytes lent and a pending step of these numbers, into its record, its ids as they were; a record
-// of another length is left alone.
-pub fn store_step(
-    rec: &mut [u8],
-    head: usize,
-    tail: usize,
-    lent: usize,
-    state: usize,
-    flag: usize,
-    until: usize,
-    from: usize,
-    piece: usize,
-    register: usize,
-)
-    ensures { rec.new ≡ pick (eqb (length rec.old) size) (words (moved_numbers rec.old head tail lent (step_of state flag until from piece register))) rec.old }
+// The numbers of a pending step that keeps at most one register, each 0 where it has none.
+#[derive(Clone, Copy)]
+pub struct Step {
+    pub state: usize,
+    pub flag: usize,
+    pub until: usize,
+    pub from: usize,
+    pub piece: usize,
+    pub register: usize,
+}
+
+impl Step {
+    // Nothing is pending.
+    pub const IDLE: Step = Step {
+        state: IDLE,
+        flag: 0,
+        until: 0,
+        from: 0,
+        piece: 0,
+        register: 0,
+    };
+}
+
+// The session at another place of its buffer, with so many bytes lent and a pending step, into its record, its ids as they were; a record of
+// another length is left alone.
+pub fn store_step(rec: &mut [u8], head: usize, tail: usize, lent: usize, step: Step)
+    ensures { rec.new ≡ pick (eqb (length rec.old) size) (words (moved_numbers rec.old head tail lent (step_of step.state step.flag step.until step.from step.piece step.register))) rec.old }
 {
+    let Step {
+        state,
+        flag,
+        until,
+        from,
+        piece,
+        register,
+    } = step;
     if rec.len() == SIZE {
         let capacity = number(rec, CAPACITY) as u64;
         let message = number(rec, MESSAGE) as u64;
         let features = number(rec, FEATURES) as u64;
         let ended = number(rec, ENDED) as u64;
-        put_four(rec, 0, capacity, message, head as u64, tail as u64);
-        put_four(rec, 32, lent as u64, features, ended, state as u64);
-        put_four(
-            rec,
-            64,
+        let numbers = [
+            capacity,
+            message,
+            head as u64,
+            tail as u64,
+            lent as u64,
+            features,
+            ended,
+            state as u64,
             flag as u64,
             until as u64,
             from as u64,
             piece as u64,
-        );
-        put_four(rec, 96, register as u64, 0, 0, 0);
-        put_four(rec, 128, 0, 0, 0, 0);
-        put_four(rec, 160, 0, 0, 0, 0);
+            register as u64,
+            0,
+            0,
+            0,
+            0,
+            0,
+            0,
+            0,
+            0,
+            0,
+            0,
+            0,
+        ];
+        put_u64s(rec, 0, numbers);
     }
-}
-
-// The same, with a step that keeps no more than a state and what it awaits.
-pub fn store_plain(
-    rec: &mut [u8],
-    head: usize,
-    tail: usize,
-    lent: usize,
-    state: usize,
-    until: usize,
-)
-    ensures { rec.new ≡ pick (eqb (length rec.old) size) (words (moved_numbers rec.old head tail lent (plain_step state until))) rec.old }
-{
-    store_step(rec, head, tail, lent, state, 0, until, 0, 0, 0);
 }

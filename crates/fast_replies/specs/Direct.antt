@@ -112,6 +112,10 @@ met_by rec rx k = ltb 0 k && leb k (length rx - number_in rec TAIL) && leb (numb
 abbrev pub stat_came : (rec rx : List ℕ) → (k : ℕ) → Version → Bool
 stat_came rec rx k v = met_by rec rx k && is_stat (dialect_held rec) v (came_in rec rx k)
 
+-- where tail comes to with k more bytes; 0 where they do not meet the need
+unfoldable pub end_of : (rec rx : List ℕ) → (k : ℕ) → ℕ
+end_of rec rx k = pick (met_by rec rx k) (number_in rec TAIL + k) 0
+
 -- the record and the reply then
 abbrev pub stat_done : (rec rx : List ℕ) → (k : ℕ) → Version → (out : List ℕ) → Bool × List ℕ × List ℕ
 stat_done rec rx k v out =

@@ -10,15 +10,16 @@ ghost use Rattle.record.specs.Record.{size};
 ghost use Rattle.ids.specs.Ids.{number_of};
 ghost use Rattle.session.specs.Phases.{stat_size_of, entry_size_of, stat_id_of, entry_id_of};
 ghost use Rattle.session.specs.declared.Reply.TheVariants.{Told};
+ghost use Rattle.fast_record.specs.Found.{found};
 ghost use Rattle.fast_record.specs.Standing.{number_in, ids_held};
-ghost use Rattle.fast_replies.specs.Direct.{tried, dialect_held, heads, name_length_of, entry_length, entry_told, entry_version, entry_done, entry_now, errorless, is_stat, stat_told, stat_done, stat_version, stat_now};
+ghost use Rattle.fast_replies.specs.Direct.{tried, dialect_held, heads, name_length_of, entry_length, entry_told, entry_version, entry_done, entry_now, errorless, is_stat, end_of, stat_told, stat_done, stat_version, stat_now};
 
 use boundary_reply::{put_stat, put_stat_v2};
-use fast_record::{fits, id_in, is_idle, number, store_plain};
+use fast_record::{Step, fits, id_in, is_idle, number, store_step};
 use format_id::SyncId;
 use format_number::u32_at;
 use format_record::{HEADER_SIZE, stat_v1_at, stat_v2_at};
-use record::{HEAD, IDLE, LENT, STAT_HEADER, STAT_V2_HEADER, STATE, TAIL, UNTIL};
+use record::{HEAD, LENT, STAT_HEADER, STAT_V2_HEADER, STATE, TAIL, UNTIL};
 use session::Version;
 use session_phases::{entry_size, stat_size};
 
@@ -30,14 +31,13 @@ pub fn heads(rec: &[u8], id: u32, x: &[u8]) -> bool
         return false;
     }
     let n = u32_at(x, 0);
-    if n == id_in(rec, SyncId::Fail) {
-        return false;
-    }
-    n == id
+    n != id_in(rec, SyncId::Fail) && n == id
 }
 
 // ---- a listing step whose entry is held whole
 
+// The number, the version and the telling of an entry, and those of a stat below, are functions apart: their clauses speak of `entry_id_of` and
+// `stat_id_of`, and so on, and one function for both would have the arms of both.
 fn entry_number(rec: &[u8], v: Version) -> u32
     ensures { result ≡ number_of (ids_held rec.now) (entry_id_of v) }
 {
@@ -47,24 +47,20 @@ fn entry_number(rec: &[u8], v: Version) -> u32
     }
 }
 
-// How many bytes the entry at the front of x takes, its name included; 0 where it is not whole.
-fn entry_len(rec: &[u8], x: &[u8], v: Version) -> usize
-    ensures { result ≡ entry_length (dialect_held rec.now) v x.now }
+// How many bytes the entry at the front of x takes, its name included, where it is whole.
+fn entry_len(rec: &[u8], x: &[u8], v: Version) -> Option<usize>
+    ensures { result ≡ found (entry_length (dialect_held rec.now) v x.now) }
 {
     let size = entry_size(v);
-    if x.len() < size {
-        return 0;
+    if x.len() < size || !heads(rec, entry_number(rec, v), x) {
+        return None;
     }
-    if heads(rec, entry_number(rec, v), x) {
-        let name_at = size - 4;
-        let name = u32_at(x, name_at) as usize;
-        let left = x.len() - size;
-        if left < name {
-            return 0;
-        }
-        return size + name;
+    let name = u32_at(x, size - 4) as usize;
+    let left = x.len() - size;
+    if left < name {
+        return None;
     }
-    0
+    Some(size + name)
 }
 
 // The entry at the front of x, with its name of len bytes from at on.
@@ -86,45 +82,54 @@ fn entry_at(rec: &mut [u8], rx: &[u8], lent: usize, v: Version, out: &mut [u8]) 
     let head = number(rec, HEAD);
     let tail = number(rec, TAIL);
     let x = &rx[head..tail];
-    let n = entry_len(rec, x, v);
-    if n == 0 {
+    let Some(n) = entry_len(rec, x, v) else {
         return false;
-    }
+    };
     let size = entry_size(v);
     let at = head + size;
     let len = n - size;
     let next = head + n;
     tell_entry(out, v, at, len, x);
-    store_plain(rec, next, tail, lent, IDLE, 0);
+    store_step(rec, next, tail, lent, Step::IDLE);
     true
 }
 
 fn version(call: u32) -> Version
     ensures { result ≡ entry_version call }
 {
-    if call == 12 {
-        return Version::V1;
+    match call {
+        12 => Version::V1,
+        _ => Version::V2,
     }
-    Version::V2
 }
 
 // Calls 12 and 13: true where the step is taken, false where nothing is altered.
 pub fn entry(rec: &mut [u8], rx: &[u8], msg: &[u8], lent: &[u8], call: u32, out: &mut [u8]) -> bool
     ensures { (a b : ℕ) → (result, crossed rec.new rx.now msg.now out.new 0) ≡ tried (entry_now rec.old rx.now msg.now call out.old) (cross_start rec.old rx.now msg.now lent.now call a b out.old) (crossed rec.old rx.now msg.now out.old 0) }
 {
-    if call < 12 {
-        return false;
-    }
-    if 13 < call {
-        return false;
-    }
-    if is_idle(rec, rx.len(), msg.len(), out.len()) {
+    if 12 <= call && call <= 13 && is_idle(rec, rx.len(), msg.len(), out.len()) {
         return entry_at(rec, rx, lent.len(), version(call), out);
     }
     false
 }
 
 // ---- a read that completes a stat's reply
+
+// Where tail comes to with count more bytes, where they meet the need.
+pub fn met(rec: &[u8], rx: &[u8], count: usize) -> Option<usize>
+    ensures { result ≡ found (end_of rec.now rx.now count) }
+{
+    let tail = number(rec, TAIL);
+    let free = rx.len().saturating_sub(tail);
+    if count == 0 || free < count {
+        return None;
+    }
+    let end = tail + count;
+    if end < number(rec, UNTIL) {
+        return None;
+    }
+    Some(end)
+}
 
 fn stat_number(rec: &[u8], v: Version) -> u32
     ensures { result ≡ number_of (ids_held rec.now) (stat_id_of v) }
@@ -153,10 +158,7 @@ fn is_stat(rec: &[u8], x: &[u8], v: Version) -> bool
     if x.len() < stat_size(v) {
         return false;
     }
-    if heads(rec, stat_number(rec, v), x) {
-        return errorless(x, v);
-    }
-    false
+    heads(rec, stat_number(rec, v), x) && errorless(x, v)
 }
 
 // The stat at the front of x.
@@ -175,37 +177,28 @@ fn stat_at(rec: &mut [u8], rx: &[u8], count: usize, v: Version, out: &mut [u8]) 
     requires { (length rec.old ≡ size) × (number_in rec.old 2 ≤ number_in rec.old 3) × (number_in rec.old 3 ≤ length rx.now) }
     ensures { (result, rec.new, out.new) ≡ stat_done rec.old rx.now count v out.old }
 {
+    let Some(end) = met(rec, rx, count) else {
+        return false;
+    };
     let head = number(rec, HEAD);
-    let tail = number(rec, TAIL);
-    if count == 0 {
-        return false;
-    }
-    let free = rx.len() - tail;
-    if free < count {
-        return false;
-    }
-    let end = tail + count;
-    if end < number(rec, UNTIL) {
-        return false;
-    }
     let x = &rx[head..end];
-    if is_stat(rec, x, v) {
-        let lent = number(rec, LENT);
-        let next = head + stat_size(v);
-        tell_stat(out, v, x);
-        store_plain(rec, next, end, lent, IDLE, 0);
-        return true;
+    if !is_stat(rec, x, v) {
+        return false;
     }
-    false
+    let lent = number(rec, LENT);
+    let next = head + stat_size(v);
+    tell_stat(out, v, x);
+    store_step(rec, next, end, lent, Step::IDLE);
+    true
 }
 
 fn stat_version(state: usize) -> Version
     ensures { result ≡ stat_version state }
 {
-    if state == STAT_HEADER {
-        return Version::V1;
+    match state {
+        STAT_HEADER => Version::V1,
+        _ => Version::V2,
     }
-    Version::V2
 }
 
 // count bytes were read into the window of a stat that awaits its reply.
@@ -220,13 +213,10 @@ pub fn stat(
     ensures { (result, crossed rec.new rx.now msg.now out.new 0) ≡ tried (stat_now rec.old rx.now msg.now lent.now count out.old) (cross_read rec.old rx.now msg.now lent.now count out.old) (crossed rec.old rx.now msg.now out.old 0) }
 {
     let state = number(rec, STATE);
-    if state < STAT_HEADER {
-        return false;
-    }
-    if STAT_V2_HEADER < state {
-        return false;
-    }
-    if fits(rec, rx.len(), msg.len(), lent.len(), out.len()) {
+    if STAT_HEADER <= state
+        && state <= STAT_V2_HEADER
+        && fits(rec, rx.len(), msg.len(), lent.len(), out.len())
+    {
         return stat_at(rec, rx, count, stat_version(state), out);
     }
     false

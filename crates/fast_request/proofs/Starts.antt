@@ -12,7 +12,6 @@ use Rattle.protocol.specs.Bytes.{put}
 use Rattle.protocol.specs.Refusal.{is_none, path_refusal, feature_refusal, ask_feature, request_refusal}
 use Rattle.protocol.specs.Ids.{Table, under, published}
 use Rattle.protocol.specs.Messages.{PathOnly, stat, sta2, list, lis2, recv, path_id, ask, word, message_of, bytes_of_request}
-use Rattle.protocol.proofs.Bytes.{put_length-in}
 use Rattle.ids.specs.Ids.{number_of, table_of, dialect_of}
 use Rattle.ids.specs.declared.Ids.{Ids}
 use Rattle.boundary.specs.Boundary.{ask_number}
@@ -22,6 +21,8 @@ use Rattle.fast_replies.specs.Direct.{tried}
 use Rattle.fast_replies.proofs.Taken.{ses, head-same, tail-same, no-refusal, written-tried}
 use Rattle.features.specs.Meaning.{listed}
 use Rattle.request_message.proofs.Laws.{front_bytes}
+use Rattle.std.specs.Prelude.{Some}
+use Rattle.decimal.proofs.Fitted.{fitted-in}
 use Rattle.request_message.specs.Composed.{only, placed}
 use Rattle.record.specs.Fields.{bits_of, step_numbers, session_of}
 use Rattle.record.specs.Record.{word_of}
@@ -131,15 +132,15 @@ module _ (i : PathOnly) (s : Session) (rx path : List ℕ) (h : Sound rx s.buf) 
   front : (b, cursor 0 n) ≡ compacted rx s.buf
   front = ap (λ (c : RecvBuf). (b, c)) (sym (compacted-head rx s.buf h))
 
-  whole : (put b n m, 8 + length path) ≡ placed b n (bytes_of_request (only (id_for s (ask_of i))) (meant (ask_of i) path))
+  whole : (put b n m, Some (8 + length path)) ≡ placed b n (bytes_of_request (only (id_for s (ask_of i))) (meant (ask_of i) path))
   whole =
       let l = ask-long s.ids i path in
       let k = compacted-length rx s.buf h in
-      rw (bytes-own s.ids (ask_of i) path, means i path, put_length-in b n m (omega (arith, h.ordered, h.within)), l)
+      rw (bytes-own s.ids (ask_of i) path, means i path, fitted-in b n m (omega (arith, h.ordered, h.within)), l)
 
   message-whole : half (stepped (at s (cursor 0 n) (Writing (ask_of i) 0 0)) (R.WriteRx n (8 + length path))) (put b n m) ≡ sent s rx (ask_of i) 0 (carried (ask_of i) 0 path)
   message-whole =
-      whole_out s rx (ask_of i) 0 path b (cursor 0 n) front (id_for s (ask_of i)) refl (put b n m) (8 + length path) whole (λ e. omega arith)
+      whole_out s rx (ask_of i) 0 path b (cursor 0 n) front (id_for s (ask_of i)) refl (put b n m) (Some (8 + length path)) whole (8 + length path) refl
       ∙ goes-out i s rx path
       ∙ ap (λ (p : List ℕ). sent s rx (ask_of i) 0 p) (carried-all (ask_of i) 0 path (no-data i))
 

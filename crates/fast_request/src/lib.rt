@@ -11,13 +11,13 @@ ghost use Rattle.record.specs.Record.{size};
 ghost use Rattle.fast_record.specs.Standing.{number_in};
 ghost use Rattle.fast_request.specs.Starting.{path_of, offered, is_path, asked_in, ask_done, ask_now};
 
-use boundary_reply::put_two;
-use fast_record::{id_in, is_idle, number, store_plain};
+use fast_record::{Step, id_in, is_idle, number, store_step};
 use format_id::SyncId;
+use format_number::put_u64s;
 use record::{FEATURES, HEAD, TAIL};
 use recv_buf::RecvBuf;
 use request_message::compose_lent;
-use request_path::path_refusal;
+use request_path::check_path;
 
 // The id of a call's message.
 fn path_id(call: u32) -> SyncId
@@ -36,21 +36,18 @@ fn path_id(call: u32) -> SyncId
 fn is_offered(features: usize, call: u32) -> bool
     ensures { result ≡ offered features call }
 {
-    if call == 2 {
-        return features % 2 == 1;
+    match call {
+        2 => features % 2 == 1,
+        4 => features / 2 % 2 == 1,
+        _ => true,
     }
-    if call == 4 {
-        return features / 2 % 2 == 1;
-    }
-    true
 }
 
 // Neither 8 nor 7.
 fn is_path(path: &[u8]) -> bool
     ensures { result ≡ is_path path.now }
 {
-    let number = path_refusal(path);
-    number == 0
+    check_path(path).is_ok()
 }
 
 // The held bytes to the front, and the message behind them, its id by the record.
@@ -78,8 +75,12 @@ fn write(rec: &mut [u8], rx: &mut [u8], lent: &[u8], call: u32, out: &mut [u8]) 
         return false;
     }
     put_request(rec, rx, head, tail, call, lent);
-    put_two(out, held as u64, n as u64);
-    store_plain(rec, 0, held, lent.len(), call as usize, 0);
+    put_u64s(out, 0, [held as u64, n as u64]);
+    let step = Step {
+        state: call as usize,
+        ..Step::IDLE
+    };
+    store_step(rec, 0, held, lent.len(), step);
     true
 }
 
@@ -94,20 +95,13 @@ pub fn request(
 ) -> bool
     ensures { (a b : ℕ) → (result, crossed rec.new rx.new msg.now out.new 2) ≡ tried (ask_now rec.old rx.old msg.now lent.now call out.old) (cross_start rec.old rx.old msg.now lent.now call a b out.old) (crossed rec.old rx.old msg.now out.old 2) }
 {
-    if call == 0 {
-        return false;
-    }
-    if 5 < call {
-        return false;
-    }
-    if is_idle(rec, rx.len(), msg.len(), out.len()) {
-        if is_offered(number(rec, FEATURES), call) {
-            if is_path(lent) {
-                return write(rec, rx, lent, call, out);
-            }
-            return false;
-        }
-        return false;
+    if 1 <= call
+        && call <= 5
+        && is_idle(rec, rx.len(), msg.len(), out.len())
+        && is_offered(number(rec, FEATURES), call)
+        && is_path(lent)
+    {
+        return write(rec, rx, lent, call, out);
     }
     false
 }

@@ -8,8 +8,8 @@ ghost use Rattle.record.specs.Record.{size};
 ghost use Rattle.fast_record.specs.Standing.{number_in};
 ghost use Rattle.fast_sent.specs.Asking.{header_done, sent_now};
 
-use boundary_reply::put_two;
-use fast_record::{fits, number, store_plain};
+use fast_record::{Step, fits, number, store_step};
+use format_number::put_u64s;
 use record::{HEAD, LENT, PIECE, STAT_HEADER, STAT_OUT, STAT_V2_OUT, STATE, TAIL};
 
 // A stat's header is awaited in the state so far behind the one in which its message is out.
@@ -25,18 +25,20 @@ fn ask_header(rec: &mut [u8], rx: &[u8], state: usize, out: &mut [u8]) -> bool
     let head = number(rec, HEAD);
     let tail = number(rec, TAIL);
     let held = tail - head;
-    if 8 <= held {
+    if 8 <= held || rx.len() <= tail {
         return false;
     }
-    if tail < rx.len() {
-        let lent = number(rec, LENT);
-        let len = rx.len() - tail;
-        let until = head + 8;
-        put_two(out, tail as u64, len as u64);
-        store_plain(rec, head, tail, lent, state, until);
-        return true;
-    }
-    false
+    let lent = number(rec, LENT);
+    let len = rx.len() - tail;
+    let until = head + 8;
+    put_u64s(out, 0, [tail as u64, len as u64]);
+    let step = Step {
+        state,
+        until,
+        ..Step::IDLE
+    };
+    store_step(rec, head, tail, lent, step);
+    true
 }
 
 // The whole message of a stat was accepted.
@@ -44,17 +46,12 @@ pub fn sent(rec: &mut [u8], rx: &[u8], msg: &[u8], lent: &[u8], out: &mut [u8]) 
     ensures { (result, crossed rec.new rx.now msg.now out.new 1) ≡ tried (sent_now rec.old rx.now msg.now lent.now out.old) (cross_wrote rec.old rx.now msg.now lent.now out.old) (crossed rec.old rx.now msg.now out.old 1) }
 {
     let state = number(rec, STATE);
-    if state < STAT_OUT {
-        return false;
-    }
-    if STAT_V2_OUT < state {
-        return false;
-    }
-    if number(rec, PIECE) == 0 {
-        if fits(rec, rx.len(), msg.len(), lent.len(), out.len()) {
-            return ask_header(rec, rx, state + HEADER_AFTER, out);
-        }
-        return false;
+    if STAT_OUT <= state
+        && state <= STAT_V2_OUT
+        && number(rec, PIECE) == 0
+        && fits(rec, rx.len(), msg.len(), lent.len(), out.len())
+    {
+        return ask_header(rec, rx, state + HEADER_AFTER, out);
     }
     false
 }

@@ -1,22 +1,25 @@
--- A list that begins with a text, compared element by element. Assumes nothing.
-use mathlib.Core.Bool.{true, false, ◌&&◌}
+-- Parts of a list, and one that begins with a text. Assumes nothing.
+use mathlib.Core.Bool.{false}
 use mathlib.Core.List.{List}
-use mathlib.Core.Path.{◌≡◌}
-use Prim.Native.Nat.{ℕ, ◌+◌, ◌<◌, ◌≤◌}
-use native.Mathlib.Numerals.{add-one}
-use lib.Dec.{eqb}
-use lib.ListN.{length, get_or, drop, drop_of_length-le}
-use lib.Seq.{drop-cons, slice, slice-cons, slice_empty}
+use mathlib.Core.Path.{◌≡◌, sym, ap, ◌∙◌}
+use Prim.Native.Nat.{ℕ, ◌+◌, ◌-◌, ◌<◌, ◌≤◌}
+use native.Mathlib.Omega.{arith}
+use lib.ListN.{length, take, drop, length-take}
+use lib.Seq.{slice, length-slice, take-take}
+use Rattle.std.proofs.lemmas.List.{drop-take}
+use Rattle.protocol.proofs.Features.{same_length}
 use Rattle.features.specs.Meaning.{starts_with}
 
--- s from f to e, and t from i on: it begins so if the first elements are the same, and the rest does; too short; at the end of t
-module _ (s : List ℕ) (f e : ℕ) (t : List ℕ) (i : ℕ) where
-  pub starts-step : f < e → e ≤ length s → i < length t
-      → starts_with (drop i t) (slice f e s) ≡ eqb (get_or s f 0) (get_or t i 0) && starts_with (drop (i + 1) t) (slice (f + 1) e s)
-  starts-step h inside k = rw (slice-cons f e s 0 h inside, drop-cons t i 0 k, add-one, add-one)
+-- the part of a list from f to e, as code makes it
+pub slice-part : (f e : ℕ) (s : List ℕ) → f ≤ e → take (e - f) (drop f s) ≡ slice f e s
+slice-part f e s o =
+    let k : e ≡ f + (e - f) = omega arith in
+    sym (ap (λ (j : ℕ). slice f j s) k ∙ drop-take f (e - f) s)
 
-  pub starts-short : f ≡ e → i < length t → starts_with (drop i t) (slice f e s) ≡ false
-  starts-short h k = rw (h, slice_empty, drop-cons t i 0 k)
+-- its first n
+pub slice-front : (f e n : ℕ) (s : List ℕ) → f + n ≤ e → slice f (f + n) s ≡ take n (slice f e s)
+slice-front f e n s h = sym (ap (λ (l : List ℕ). drop f l) (take-take (f + n) e s h)) ∙ drop-take f n (take e s)
 
-  pub starts-end : length t ≤ i → starts_with (drop i t) (slice f e s) ≡ true
-  starts-end k = rw (drop_of_length-le t k)
+-- too short for the text
+pub starts-short : (f e : ℕ) (s t : List ℕ) → e ≤ length s → e - f < length t → starts_with t (slice f e s) ≡ false
+starts-short f e s t i h = same_length (take (length t) (slice f e s)) t (λ x. omega (arith, length-take (length t) (slice f e s), length-slice f e s i))

@@ -3,6 +3,8 @@ use Rattle.std.specs.Prelude.{Bool, List, [], ◌∷◌, map, ◌≡◌, ℕ, eq
 use Rattle.std.proofs.Math.Option.{Option, none, some}
 use Rattle.protocol.specs.Bytes.{pick, same}
 use Rattle.protocol.specs.Features.{split, names}
+use Rattle.features.specs.declared.Feature.{Feature}
+use Rattle.features.specs.declared.Feature.TheVariants.{StatV2, LsV2, SendRecvV2, Brotli, Lz4, Zstd, DryRunSend}
 use Rattle.features.specs.declared.Features.{Features}
 
 -- whether a list begins with the text
@@ -29,3 +31,12 @@ Named p number = map (same p) names ≡ map (eqb number) numbers
 -- the features 1 to 7 in their order
 abbrev pub listed : Features → List Bool
 listed f = f.stat_v2 ∷ f.ls_v2 ∷ f.sendrecv_v2 ∷ f.brotli ∷ f.lz4 ∷ f.zstd ∷ f.dry_run_send ∷ []
+
+abbrev pub feature_number : Feature → ℕ
+feature_number StatV2 = 1
+feature_number LsV2 = 2
+feature_number SendRecvV2 = 3
+feature_number Brotli = 4
+feature_number Lz4 = 5
+feature_number Zstd = 6
+feature_number DryRunSend = 7

@@ -5,11 +5,11 @@ ghost use Rattle.std.specs.Prelude.{[], ◌∷◌, map, ◌≡◌};
 ghost use Rattle.protocol.specs.Flags as Flags;
 
 // A Unix file mode: the file type and the permission bits in one number.
-#[derive(Clone, Copy)]
+#[derive(Clone, Copy, PartialEq, Eq, Default)]
 pub struct FileMode(pub u32);
 
 // What a transfer asks besides: at most one packing flag, and a dry run of a push.
-#[derive(Clone, Copy)]
+#[derive(Clone, Copy, PartialEq, Eq, Default)]
 pub struct SyncFlags(pub u32);
 
 impl SyncFlags {
@@ -47,7 +47,7 @@ impl SyncFlags {
     pub fn several(self) -> bool
         ensures { result ≡ Flags.several self.0 }
     {
-        1 < u32::count_ones(self.0 % 8)
+        1 < (self.0 % 8).count_ones()
     }
 
     // Whether a bit is set that no flag has.
@@ -68,15 +68,6 @@ impl SyncFlags {
     pub fn refused(self, pull: bool) -> bool
         ensures { result ≡ Flags.refused_flags pull self.0 }
     {
-        if self.unknown() {
-            return true;
-        }
-        if self.several() {
-            return true;
-        }
-        if pull {
-            return self.dry_run();
-        }
-        false
+        self.unknown() || self.several() || (pull && self.dry_run())
     }
 }

@@ -1,10 +1,9 @@
 -- Which of the protocol's ids a `SyncId` is, and what `from_bytes` found. Assumes nothing.
-use Rattle.std.proofs.Math.Option.{Option, none, some}
+use Rattle.std.specs.Prelude.{Option, Some, None}
+use Rattle.std.proofs.Math.Option as M
 use Rattle.protocol.specs.Ids.{Id, STAT, STA2, LIST, LIS2, SEND, SND2, RECV, RCV2, DATA, DONE, OKAY, FAIL, DENT, DNT2, QUIT}
 use Rattle.format_id.specs.declared.SyncId.{SyncId}
-use Rattle.format_id.specs.declared.Found.{Found}
 use Rattle.format_id.specs.declared.SyncId.TheVariants as S
-use Rattle.format_id.specs.declared.Found.TheVariants as F
 
 abbrev pub id_of : SyncId → Id
 id_of S.Stat = STAT
@@ -23,6 +22,6 @@ id_of S.Dent = DENT
 id_of S.Dnt2 = DNT2
 id_of S.Quit = QUIT
 
-abbrev pub found_id : Found → Option Id
-found_id (F.Id i) = some (id_of i)
-found_id F.Nothing = none
+abbrev pub found_id : Option SyncId → M.Option Id
+found_id (Some i) = M.some (id_of i)
+found_id None = M.none

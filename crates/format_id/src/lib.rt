@@ -1,14 +1,12 @@
 // The fifteen ids of sync messages (000's sync/format.rs).
 #![tactic(auto)]
 
-ghost use Rattle.std.specs.Prelude.{map, ◌≡◌, length};
+ghost use Rattle.std.specs.Prelude.{map, ◌≡◌};
 ghost use Rattle.protocol.specs.Ids.{letters, published, named};
 ghost use Rattle.protocol.specs.Ids as Ids;
 ghost use Rattle.format_id.specs.Ids.{id_of, found_id};
 
-use format_number::u32_at;
-
-#[derive(Clone, Copy)]
+#[derive(Clone, Copy, PartialEq, Eq)]
 pub enum SyncId {
     Stat,
     Sta2,
@@ -25,13 +23,6 @@ pub enum SyncId {
     Dent,
     Dnt2,
     Quit,
-}
-
-// What four bytes are: an id, or none of the fifteen.
-#[derive(Clone, Copy)]
-pub enum Found {
-    Id(SyncId),
-    Nothing,
 }
 
 impl SyncId {
@@ -83,35 +74,14 @@ impl SyncId {
     }
 
     // The id that four bytes are.
-    pub fn from_bytes(b: [u8; 4]) -> Found
+    pub fn from_bytes(b: [u8; 4]) -> Option<SyncId>
         ensures { found_id result ≡ named published b }
     {
-        SyncId::find(&b)
-    }
-
-    // The keys are the numbers that the letters spell, the first letter lowest.
-    fn find(s: &[u8]) -> Found
-        requires { length s.now ≡ 4 }
-        ensures { found_id result ≡ named published s.now }
-    {
-        let n = u32_at(s, 0);
-        match n {
-            0x5441_5453 => Found::Id(SyncId::Stat),
-            0x3241_5453 => Found::Id(SyncId::Sta2),
-            0x5453_494c => Found::Id(SyncId::List),
-            0x3253_494c => Found::Id(SyncId::Lis2),
-            0x444e_4553 => Found::Id(SyncId::Send),
-            0x3244_4e53 => Found::Id(SyncId::Snd2),
-            0x5643_4552 => Found::Id(SyncId::Recv),
-            0x3256_4352 => Found::Id(SyncId::Rcv2),
-            0x4154_4144 => Found::Id(SyncId::Data),
-            0x454e_4f44 => Found::Id(SyncId::Done),
-            0x5941_4b4f => Found::Id(SyncId::Okay),
-            0x4c49_4146 => Found::Id(SyncId::Fail),
-            0x544e_4544 => Found::Id(SyncId::Dent),
-            0x3254_4e44 => Found::Id(SyncId::Dnt2),
-            0x5449_5551 => Found::Id(SyncId::Quit),
-            _ => Found::Nothing,
+        for id in SyncId::ALL {
+            if id.as_bytes() == b {
+                return Some(id);
+            }
         }
+        None
     }
 }

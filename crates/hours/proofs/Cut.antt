@@ -7,31 +7,60 @@ use mathlib.Core.Path.{◌≡◌, refl, sym, ap, ap₂, ◌∙◌}
 use native.Mathlib.Decide.{ℕ_discrete}
 use native.Mathlib.Numerals.{add-one}
 use native.Mathlib.Omega.{arith}
-use borrow.Author.Tests.{eq-eqb, ne_eqb}
-use lib.Dec.{eqb}
-use lib.ListN.{length, get_or, take, drop, drop_of_length-le}
-use lib.Seq.{drop-cons, take_all}
+use borrow.Author.Tests.{ltb-true, ltb-false}
+use lib.Dec.{eqb, ltb}
+use Rattle.std.specs.Prelude.{cond, position, Some, None, IfSome, Option as Optional}
+use Rattle.std.specs.List.{position_or_len}
+use Rattle.std.specs.Cmp.Lexicographic.{pointwise}
+use Rattle.std.proofs.lemmas.List.Recursion.{is_position_or_len}
+use lib.ListN.{length, take, drop}
 use Rattle.protocol.specs.Bytes.{pick, has, same}
 use Rattle.protocol.specs.Decimal.{canonical}
-use Rattle.protocol.proofs.Bytes.{same-eq, end_whole}
+use Rattle.protocol.proofs.Bytes.{end_whole}
 use Rattle.protocol.proofs.Decimal.{decimal-canonical, decimal-has_not}
 use Rattle.text_lines.specs.Lines.{comma, line_end, in_front, cut_at, and_line, ended, lines_of}
 use Rattle.hours.specs.File.{numbered, span_in}
-use Rattle.hours.specs.Scan.{before}
+use Rattle.hours.specs.Scan.{before, before_of}
 
 -- ---- the first b from i on
 
-pub before_here : (b : ℕ) (s : List ℕ) (i : ℕ) → i < length s → get_or s i 0 ≡ b → before b (drop i s) ≡ 0
+before-place : (b : ℕ) (s : List ℕ) → before b s ≡ position_or_len (λ x. eqb x b) s
 unfolding before
-before_here b s i h e = rw (drop-cons s i 0 h, eq-eqb _ _ e)
+before-place b s = is_position_or_len (before b) (λ x. eqb x b) refl (λ x l. step (eqb x b) (before b l)) s
+  where
+    step : (t : Bool) (n : ℕ) → pick t 0 (suc n) ≡ cond t 0 (1 + n)
+    step true n = refl
+    step false n = omega arith
 
-pub before-next : (b : ℕ) (s : List ℕ) (i : ℕ) → i < length s → (get_or s i 0 ≡ b → ⊥) → before b (drop i s) ≡ suc (before b (drop (i + 1) s))
+before-most : (b : ℕ) (s : List ℕ) → before b s ≤ length s
 unfolding before
-before-next b s i h f = rw (drop-cons s i 0 h, ne_eqb _ _ f, add-one)
+before-most b [] = omega arith
+before-most b (x ∷ s) = go (eqb x b) (before-most b s)
+  where
+    go : (t : Bool) → before b s ≤ length s → pick t 0 (suc (before b s)) ≤ suc (length s)
+    go true h = omega arith
+    go false h = omega arith
 
-pub before-end : (b : ℕ) (s : List ℕ) (i : ℕ) → length s ≤ i → before b (drop i s) ≡ 0
-unfolding before
-before-end b s i h = rw (drop_of_length-le s {i = i} h)
+found : (b : ℕ) (s : List ℕ) → (before_of (length s) (position (λ x. eqb x b) s) ≡ before b s) × IfSome (position (λ x. eqb x b) s) (λ i. i < length s)
+found b s = go (ltb (position_or_len (λ x. eqb x b) s) (length s)) refl
+  where
+    go : (t : Bool) → ltb (position_or_len (λ x. eqb x b) s) (length s) ≡ t
+        → (before_of (length s) (cond t (Some (position_or_len (λ x. eqb x b) s)) None) ≡ before b s) × IfSome (cond t (Some (position_or_len (λ x. eqb x b) s)) None) (λ i. i < length s)
+    go true h = (sym (before-place b s), ltb-true _ _ h)
+    go false h = (omega (arith, before-place b s, before-most b s, ltb-false _ _ h), tt)
+
+-- where a search found the first b, or found none
+module _ (b : ℕ) (s : List ℕ) {o : Optional ℕ} (e : o ≡ position (λ x. eqb x b) s) where
+  pub found_at : (i : ℕ) → o ≡ Some i → (i ≡ before b s) × (i < length s)
+  found_at i f =
+      let at : position (λ x. eqb x b) s ≡ Some i = sym e ∙ f in
+      let h = rw at at (found b s) in
+      (h.0, h.1)
+
+  pub found_none : o ≡ None → length s ≡ before b s
+  found_none f =
+      let at : position (λ x. eqb x b) s ≡ None = sym e ∙ f in
+      (rw at at (found b s)).0
 
 -- ---- a text is cut there
 
@@ -170,24 +199,8 @@ all_three l i j e h f k =
 
 -- ---- a text that begins with another
 
-pub begins-short : (s t : List ℕ) → length s < length t → same (take (length t) s) t ≡ false
-begins-short s t h = go (same (take (length t) s) t) refl
-  where
-    go : (b : Bool) → same (take (length t) s) t ≡ b → b ≡ false
-    go true e = absurd (omega (arith, ap length (sym (take_all (length t) s (omega arith)) ∙ same-eq (take (length t) s) t e)))
-    go false e = refl
-
-pub begins-start : (s t : List ℕ) → same (take (length t) s) t ≡ same (take (length t - 0) (drop 0 s)) (drop 0 t)
-begins-start s t = let e : length t - 0 ≡ length t = omega arith in rw e
-
-pub begins-next : (s t : List ℕ) (i : ℕ) → i < length t → length t ≤ length s
-    → same (take (length t - i) (drop i s)) (drop i t)
-    ≡ eqb (get_or s i 0) (get_or t i 0) && same (take (length t - (i + 1)) (drop (i + 1) s)) (drop (i + 1) t)
-begins-next s t i h k =
-    let e : length t - i ≡ suc (length t - (i + 1)) = omega arith in
-    rw (e, drop-cons s i 0 (omega arith), drop-cons t i 0 h, add-one)
-
-pub begins-end : (s t : List ℕ) (i : ℕ) → length t ≤ i → same (take (length t - i) (drop i s)) (drop i t) ≡ true
-begins-end s t i h =
-    let e : length t - i ≡ 0 = omega arith in
-    rw (e, drop_of_length-le t {i = i} h)
+pub same-pointwise : (s t : List ℕ) → pointwise eqb s t ≡ same s t
+same-pointwise [] [] = refl
+same-pointwise [] (y ∷ t) = refl
+same-pointwise (x ∷ s) [] = refl
+same-pointwise (x ∷ s) (y ∷ t) = ap (λ b. eqb x y && b) (same-pointwise s t)

@@ -6,6 +6,7 @@ use mathlib.Core.Path.{◌≡◌, refl, sym, ap, ap₂, ◌∙◌}
 use native.Mathlib.Numerals.{add-one}
 use native.Mathlib.Omega.{arith}
 use borrow.Author.Tests.{eq-eqb, ne_eqb, le-ltb, eqb-true}
+use Rattle.std.specs.List.{list_all}
 use lib.Dec.{eqb, leb, ltb}
 use lib.ListN.{length, get_or, drop, length-drop, drop_of_length-le}
 use lib.Seq.{drop-cons, get_or-drop}
@@ -19,11 +20,9 @@ use Rattle.hours.specs.Slots.{spans_from, numbers, hours_of}
 
 -- ---- zeros
 
-pub zero-next : (s : List ℕ) (i : ℕ) → i < length s → all_zero (drop i s) ≡ eqb (get_or s i 0) 0 && all_zero (drop (i + 1) s)
-zero-next s i h = rw (drop-cons s i 0 h, add-one)
-
-pub zero-end : (s : List ℕ) (i : ℕ) → length s ≤ i → all_zero (drop i s) ≡ true
-zero-end s i h = rw (drop_of_length-le s {i = i} h)
+pub all-zero : (s : List ℕ) → list_all (λ b. eqb b 0) s ≡ all_zero s
+all-zero [] = refl
+all-zero (b ∷ s) = ap (λ t. eqb b 0 && t) (all-zero s)
 
 -- ---- four bytes are two numbers
 

@@ -18,7 +18,7 @@ use Rattle.protocol.proofs.Bytes.{over-length, over-before, over-there}
 use Rattle.ids.specs.Ids.{ids_of}
 use Rattle.id_table.specs.IdsFile.{count, checked}
 use Rattle.id_table.specs.Settings.{settings_size, room_size, misplaced, place, table_in, settings_of, lent, lent_in}
-use Rattle.id_table.specs.declared.Lent.TheVariants as L
+use Rattle.id_table.specs.Lent as L
 use Rattle.id_table.proofs.Laws.{id-tables}
 use Rattle.hours.specs.Claim.{HoursFiles}
 use Rattle.hours.specs.File.{hours_in, hours_file}

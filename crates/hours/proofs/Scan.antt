@@ -9,7 +9,7 @@ use native.Mathlib.Omega.{arith}
 use borrow.Author.Tests.{le-leb, lt-leb, leb-true, eq-eqb, ne_eqb}
 use lib.Dec.{eqb, leb}
 use lib.ListN.{length, take, drop, replicate, length-append, length-drop, length-replicate, replicate-append-replicate, take-append-drop}
-use lib.Seq.{take_at, drop_at, drop-drop}
+use lib.Seq.{take_at, drop_at}
 use Rattle.protocol.specs.Bytes.{pick, bytes_of, over, put, same}
 use Rattle.protocol.specs.Hours.{Span, Hours}
 use Rattle.protocol.proofs.Bytes.{same_refl, same-eq, bytes_of-add, end_whole, over-length, put_in, put-put}
@@ -51,31 +51,27 @@ pub scanned-end : (next : ℕ) (b : List ℕ) → scanned next b [] ≡ some b
 unfolding scanned lines_of
 scanned-end next b = refl
 
--- the same by the places in the text of which s is what is left
-module _ (next : ℕ) (b s : List ℕ) (at n : ℕ) (more : at < length s) (size : n ≡ before line_end (take (length s - at) (drop at s))) where
-  size-there : n ≡ before line_end (drop at s)
-  size-there = size ∙ ap (before line_end) (end_whole s at (omega arith))
+-- the same by the place of the first byte 10
+module _ (next : ℕ) (b s : List ℕ) where
+  pub scan_open : 0 < length s → length s ≡ before line_end s → scanned next b s ≡ none
+  scan_open h e = scanned-open next b s h (omega arith)
 
-  pub scan_open : at + n ≡ length s → scanned next b (drop at s) ≡ none
-  scan_open e = scanned-open next b (drop at s) (omega (arith, length-drop at s)) (omega (arith, length-drop at s, size-there))
+  module _ (n : ℕ) (size : n ≡ before line_end s) (ends : n < length s) where
+    scan_step : scanned next b s ≡ span_then next b (span_in (cut_at comma (take n s))) (λ m c. scanned m c (take (length s - (n + 1)) (drop (n + 1) s)))
+    scan_step = scanned-next next b s (omega arith) ∙ rw (← size, end_whole s (n + 1) (omega arith), add-one n)
 
-  module _ (ends : at + n < length s) where
-    scan_step : scanned next b (drop at s) ≡ span_then next b (span_in (cut_at comma (take (at + n - at) (drop at s)))) (λ m c. scanned m c (drop (at + n + 1) s))
-    scan_step =
-        let e : at + suc n ≡ at + n + 1 = omega arith in
-        let f : at + n - at ≡ n = omega arith in
-        scanned-next next b (drop at s) (omega (arith, length-drop at s, size-there))
-        ∙ rw (← size-there, drop-drop (suc n) at s, e, f)
+    pub scan_bad : span_in (cut_at comma (take n s)) ≡ none → scanned next b s ≡ none
+    scan_bad e = scan_step ∙ ap (λ (o : Option Span). span_then next b o (λ m c. scanned m c (take (length s - (n + 1)) (drop (n + 1) s)))) e
 
-    pub scan_bad : span_in (cut_at comma (take (at + n - at) (drop at s))) ≡ none → scanned next b (drop at s) ≡ none
-    scan_bad e = scan_step ∙ ap (λ (o : Option Span). span_then next b o (λ m c. scanned m c (drop (at + n + 1) s))) e
-
-    module _ (span : Span) (e : span_in (cut_at comma (take (at + n - at) (drop at s))) ≡ some span) where
-      pub scan_under : span.day < next → scanned next b (drop at s) ≡ none
+    module _ (span : Span) (e : span_in (cut_at comma (take n s)) ≡ some span) where
+      pub scan_under : span.day < next → scanned next b s ≡ none
       scan_under h = scan_step ∙ rw (e, lt-leb next span.day h)
 
-      pub scan_on : next ≤ span.day → scanned next b (drop at s) ≡ scanned (span.day + 1) (with_span b span) (drop (at + n + 1) s)
+      pub scan_on : next ≤ span.day → scanned next b s ≡ scanned (span.day + 1) (with_span b span) (take (length s - (n + 1)) (drop (n + 1) s))
       scan_on h = scan_step ∙ rw (e, le-leb next span.day h, add-one span.day)
+
+pub left-shorter : (s : List ℕ) (n : ℕ) → n ≤ length s → length (take (length s - n) (drop n s)) ≤ length s
+left-shorter s n h = omega (arith, ap length (end_whole s n h), length-drop n s)
 
 pub span_small : (l : List (List ℕ)) (s : Span) → span_in l ≡ some s → (s.day ≤ 6) × (s.opens ≤ 1440) × (s.closes ≤ 1440)
 span_small l s e = let b = (span-only l s e).spans in (b.0, omega (arith, b.1.0, b.1.1), b.1.1)
@@ -224,7 +220,7 @@ head-lines s = ap under_heading (lines_cut (take 14 head_line) (head_line ++ s) 
     go none = refl
     go (some ls) = refl
 
-pub file-read : (file : List ℕ) → same (take head_size file) head_line ≡ true → scanned 0 (replicate days_size 0) (drop head_size file) ≡ days_in (hours_in file)
+file-read : (file : List ℕ) → same (take head_size file) head_line ≡ true → scanned 0 (replicate days_size 0) (drop head_size file) ≡ days_in (hours_in file)
 unfolding scanned
 file-read file e =
     let whole : head_line ++ drop head_size file ≡ file =
@@ -248,19 +244,16 @@ headed-long file e =
     omega (arith, ap length (same-eq (take head_size file) head_line e), ap length (take-append-drop head_size file), length-append (take head_size file) (drop head_size file))
 
 module _ (file : List ℕ) (e : same (take head_size file) head_line ≡ true) where
-  lines_left : scanned 0 (replicate days_size 0) (take (length file - head_size) (drop head_size file)) ≡ days_in (hours_in file)
-  lines_left = ap (scanned 0 (replicate days_size 0)) (end_whole file head_size (headed-long file e)) ∙ file-read file e
-
-  pub lines-refused : none ≡ scanned 0 (replicate days_size 0) (take (length file - head_size) (drop head_size file)) → hours_in file ≡ none
-  lines-refused n = go (hours_in file) (n ∙ lines_left)
+  pub lines-refused : none ≡ scanned 0 (replicate days_size 0) (drop head_size file) → hours_in file ≡ none
+  lines-refused n = go (hours_in file) (n ∙ file-read file e)
     where
       go : (o : Option Hours) → none ≡ days_in o → o ≡ none
       go none q = refl
       go (some h) q = absurd (none-ne-some (pairs (slots_of h)) q)
 
-  pub lines-taken : (b s : List ℕ) → length s ≡ settings_size → some b ≡ scanned 0 (replicate days_size 0) (take (length file - head_size) (drop head_size file))
+  pub lines-taken : (b s : List ℕ) → length s ≡ settings_size → some b ≡ scanned 0 (replicate days_size 0) (drop head_size file)
       → ◌≡◌ {A = List ℕ × ℕ} (put (put s hours_place (bytes_of 4 1)) (hours_place + 4) b, 0) (taken_hours s (hours_in file))
-  lines-taken b s l n = go (hours_in file) (n ∙ lines_left)
+  lines-taken b s l n = go (hours_in file) (n ∙ file-read file e)
     where
       go : (o : Option Hours) → some b ≡ days_in o → ◌≡◌ {A = List ℕ × ℕ} (put (put s hours_place (bytes_of 4 1)) (hours_place + 4) b, 0) (taken_hours s o)
       go none q = absurd (none-ne-some b (sym q))
@@ -271,10 +264,3 @@ module _ (file : List ℕ) (e : same (take head_size file) head_line ≡ true) w
           (ap (put (put s hours_place (bytes_of 4 1)) (hours_place + 4)) same-days
           ∙ put-put s hours_place (hours_place + 4) (bytes_of 4 1) (pairs (slots_of h)) refl (omega arith)
           ∙ put_in s hours_place (hours_bytes (some h)) (omega arith))
-
--- what a reading's answer says
-pub refused-by : (r : Bool) (b : List ℕ) (o : Option (List ℕ)) → pick r (some b) none ≡ o → r ≡ false → none ≡ o
-refused-by r b o e f = sym (ap (λ (t : Bool). pick t (some b) none) f) ∙ e
-
-pub taken-by : (r : Bool) (b : List ℕ) (o : Option (List ℕ)) → pick r (some b) none ≡ o → r ≡ true → some b ≡ o
-taken-by r b o e f = sym (ap (λ (t : Bool). pick t (some b) none) f) ∙ e

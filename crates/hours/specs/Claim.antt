@@ -8,7 +8,7 @@ use Rattle.protocol.specs.Ids.{Table, Legal}
 use Rattle.protocol.specs.Refusal.{closed_hours}
 use Rattle.ids.specs.Ids.{ids_of}
 use Rattle.id_table.specs.Settings.{settings_size, misplaced, settings_of, loaded, lent_in}
-use Rattle.id_table.specs.declared.Lent.TheVariants as L
+use Rattle.id_table.specs.Lent as L
 use Rattle.hours.specs.File.{hours_in, hours_file}
 use Rattle.hours.specs.Slots.{hours_bytes}
 use Rattle.hours.specs.Settings.{hours_place, hours_end, bad_hours, hours_bytes_in, settings_with, is_hours, loaded_hours, cross_may_push}

@@ -1,23 +1,28 @@
 -- A file of hours read from its first byte to its last: each span is put in its day's bytes as its line is read.
 -- Assumes nothing.
-use Rattle.std.specs.Prelude.{ℕ, suc, ◌*◌, List, [], ◌∷◌, ◌++◌, eqb, leb}
+use Rattle.std.specs.Prelude.{ℕ, suc, Some, None, ◌*◌, List, [], ◌∷◌, ◌++◌, eqb, leb}
+use Rattle.std.specs.Prelude as P
 use Rattle.std.proofs.Math.Option.{Option, none, some}
 use Rattle.protocol.specs.Bytes.{pick, ascii, bytes_of, over}
 use Rattle.protocol.specs.Hours.{Span}
 use Rattle.text_lines.specs.Lines.{line_end, lines_of}
 use Rattle.hours.specs.File.{span_in}
-use Rattle.hours.specs.declared.Day.{Day}
-use Rattle.hours.specs.declared.Day.TheVariants as D
+use Rattle.hours.specs.declared.Span as D
 
--- the span that a `Day` gives, if any
-abbrev pub span_of : Day → Option Span
-span_of (D.Span d o c) = some (record { day = d; opens = o; closes = c })
-span_of D.Bad = none
+-- the span that was read, if any
+abbrev pub span_of : P.Option D.Span → Option Span
+span_of (Some s) = some (record { day = s.day; opens = s.opens; closes = s.closes })
+span_of None = none
 
 -- how many bytes stand before the first b: all where there is none
 unfoldable pub before : (b : ℕ) → List ℕ → ℕ
 before b [] = 0
 before b (x ∷ s) = pick (eqb x b) 0 (suc (before b s))
+
+-- the same of the place of the first b among n bytes
+abbrev pub before_of : (n : ℕ) → P.Option ℕ → ℕ
+before_of n (Some i) = i
+before_of n None = n
 
 -- the first line, with its byte 10
 abbrev pub head_size : ℕ
@@ -49,3 +54,8 @@ scan_read next b (some ls) = scan_lines next b ls
 -- ... after the lines of a text
 unfoldable pub scanned : ℕ → List ℕ → List ℕ → Option (List ℕ)
 scanned next b text = scan_read next b (lines_of text)
+
+-- the bytes of the days that were read, if any
+abbrev pub days_of : P.Option (List ℕ) → Option (List ℕ)
+days_of (Some b) = some b
+days_of None = none

@@ -1,26 +1,24 @@
 // Cutting hours from a file, and in the settings that the host lends (document 02, [10]).
 #![tactic(auto)]
 
-ghost use Rattle.std.specs.Prelude.{List, ◌≡◌, ℕ, ◌≤◌, length, take, drop};
-ghost use Rattle.std.proofs.Math.Option.{none, some};
+ghost use Rattle.std.specs.Prelude.{List, ◌≡◌, ℕ, ◌≤◌, ◌==◌, length, drop, replicate, position};
+ghost use Rattle.std.specs.List.{list_all};
 ghost use Rattle.decimal.specs.Meaning.{parsed};
-ghost use Rattle.protocol.specs.Bytes.{pick, same};
 ghost use Rattle.protocol.specs.Hours.{lets};
 ghost use Rattle.text_lines.specs.Lines.{comma, cut_at};
 ghost use Rattle.hours.specs.File.{checked_span, numbered, span_in};
 ghost use Rattle.hours.specs.Slots.{numbers, hours_of};
-ghost use Rattle.hours.specs.Settings.{hours_size, day_minutes, is_day, all_zero, are_days, is_hours, loaded_hours, cross_may_push, lets_in};
-ghost use Rattle.hours.specs.Scan.{span_of, before, days_size, with_span, scanned};
+ghost use Rattle.hours.specs.Settings.{hours_size, day_minutes, is_day, are_days, is_hours, loaded_hours, cross_may_push, lets_in};
+ghost use Rattle.hours.specs.Scan.{span_of, days_size, days_of, with_span, scanned};
 
-use decimal::{Parsed, parse_u32};
+use decimal::parse_u32;
 use format_number::{put_bytes, put_u32, u32_at};
+use id_table::SETTINGS;
 
-// Settings: the fifteen ids, then the hours.
-const SETTINGS: usize = 128;
+// The hours in the settings: behind the fifteen ids.
+pub const PLACE: usize = 60;
 
-const PLACE: usize = 60;
-
-const END: usize = 92;
+pub const END: usize = 92;
 
 // Hours: 1 where there are some and else 0, in four bytes; then the days from Monday on.
 const HOURS: usize = 32;
@@ -38,7 +36,7 @@ const DAY: usize = 4;
 
 const HIGH: u32 = 0x1_0000;
 
-// The numbers of refusals: settings of another length, hours of another form, a moment outside the hours.
+// The refusals, by the numbers that cross to C: settings of another length, hours of another form, a moment outside the hours.
 const MISPLACED: u32 = 3;
 
 const BAD_HOURS: u32 = 24;
@@ -60,93 +58,47 @@ const DAY_SECONDS: u32 = 86400;
 const MINUTE: u32 = 60;
 
 // The first line of a file.
-const HEADING_SIZE: usize = 15;
-
 const HEADING: [u8; 15] = *b"day,open,close\n";
 
 // What a line of the file gives: the day, its opening and its closing minute.
 #[derive(Clone, Copy)]
-enum Day {
-    Span(u32, u32, u32),
-    Bad,
-}
-
-// How many bytes stand before the first b: all where there is none.
-fn find(s: &[u8], b: u8) -> usize
-    ensures { (result ≡ before b s.now) × (result ≤ length s.now) }
-{
-    let mut i = 0;
-    while i < s.len() {
-        if s[i] == b {
-            return i;
-        }
-        i += 1;
-    }
-    i
-}
-
-// Whether s begins with a text.
-fn begins(s: &[u8], text: &[u8]) -> bool
-    ensures { result ≡ same (take (length text.now) s.now) text.now }
-{
-    if s.len() < text.len() {
-        return false;
-    }
-    let mut i = 0;
-    while i < text.len() {
-        if s[i] != text[i] {
-            return false;
-        }
-        i += 1;
-    }
-    true
+struct Span {
+    day: u32,
+    opens: u32,
+    closes: u32,
 }
 
 // Three numbers that are a span.
-fn checked(day: u32, opens: u32, closes: u32) -> Day
+fn checked(day: u32, opens: u32, closes: u32) -> Option<Span>
     ensures { span_of result ≡ checked_span (record { day = day; opens = opens; closes = closes }) }
 {
-    if LAST_DAY < day {
-        return Day::Bad;
+    if day <= LAST_DAY && opens < closes && closes <= DAY_MINUTES {
+        return Some(Span { day, opens, closes });
     }
-    if closes <= opens {
-        return Day::Bad;
-    }
-    if DAY_MINUTES < closes {
-        return Day::Bad;
-    }
-    Day::Span(day, opens, closes)
+    None
 }
 
 // The span of three fields.
-fn day_of(day: Parsed, opens: Parsed, closes: Parsed) -> Day
+fn day_of(day: Option<u32>, opens: Option<u32>, closes: Option<u32>) -> Option<Span>
     ensures { span_of result ≡ numbered (parsed day) (parsed opens) (parsed closes) }
 {
-    let Parsed::Number(d) = day else {
-        return Day::Bad;
-    };
-    let Parsed::Number(o) = opens else {
-        return Day::Bad;
-    };
-    let Parsed::Number(c) = closes else {
-        return Day::Bad;
-    };
-    checked(d, o, c)
+    checked(day?, opens?, closes?)
+}
+
+// The place of the first b.
+fn find(s: &[u8], b: u8) -> Option<usize>
+    ensures { result ≡ position (λ x. x == b) s.now }
+{
+    s.iter().position(|x| *x == b)
 }
 
 // The span of a line: three numbers with a comma between each two.
-fn span_of(line: &[u8]) -> Day
+fn span_of(line: &[u8]) -> Option<Span>
     ensures { span_of result ≡ span_in (cut_at comma line.now) }
 {
-    let first = find(line, b',');
-    if first == line.len() {
-        return Day::Bad;
-    }
+    let first = find(line, b',')?;
     let rest = &line[first + 1..];
-    let second = find(rest, b',');
-    if second == rest.len() {
-        return Day::Bad;
-    }
+    let second = find(rest, b',')?;
     let day = parse_u32(&line[..first]);
     let opens = parse_u32(&rest[..second]);
     let closes = parse_u32(&rest[second + 1..]);
@@ -154,39 +106,33 @@ fn span_of(line: &[u8]) -> Day
 }
 
 // A span into the bytes of its day.
-fn put_day(days: &mut [u8], day: u32, opens: u32, closes: u32)
-    requires { (length days.old ≡ days_size) × (day ≤ 6) × (opens ≤ day_minutes) × (closes ≤ day_minutes) }
-    ensures { days.new ≡ with_span days.old (record { day = day; opens = opens; closes = closes }) }
+fn put_day(days: &mut [u8], span: Span)
+    requires { (length days.old ≡ days_size) × (span.day ≤ 6) × (span.opens ≤ day_minutes) × (span.closes ≤ day_minutes) }
+    ensures { days.new ≡ with_span days.old (record { day = span.day; opens = span.opens; closes = span.closes }) }
 {
-    let at = DAY * day as usize;
-    let word = opens + HIGH * closes;
-    put_u32(days, at, word);
+    let at = DAY * span.day as usize;
+    put_u32(days, at, span.opens + HIGH * span.closes);
 }
 
-// The spans of some lines into the bytes of their days. False where a line is no span, or its day not behind the one before.
-fn read_days(days: &mut [u8], lines: &[u8]) -> bool
-    requires { length days.old ≡ days_size }
-    ensures { pick result (some days.new) none ≡ scanned 0 days.old lines.now }
+// The days of some lines. None where a line is no span, or its day not behind the one before.
+fn read_days(lines: &[u8]) -> Option<[u8; DAYS_SIZE]>
+    ensures { days_of result ≡ scanned 0 (replicate days_size 0) lines.now }
 {
+    let mut days = [0; DAYS_SIZE];
     let mut next = 0;
-    let mut at = 0;
-    while at < lines.len() {
-        let size = find(&lines[at..], b'\n');
-        let end = at + size;
-        if end == lines.len() {
-            return false;
+    let mut rest = lines;
+    // no `for`: where the next line begins is known only behind this one
+    while !rest.is_empty() {
+        let end = find(rest, b'\n')?;
+        let span = span_of(&rest[..end])?;
+        if span.day < next {
+            return None;
         }
-        let Day::Span(day, opens, closes) = span_of(&lines[at..end]) else {
-            return false;
-        };
-        if day < next {
-            return false;
-        }
-        put_day(days, day, opens, closes);
-        next = day + 1;
-        at = end + 1;
+        put_day(&mut days, span);
+        next = span.day + 1;
+        rest = &rest[end + 1..];
     }
-    true
+    Some(days)
 }
 
 // The hours of a file into the settings; what stands before and behind them stays. 0; 3 or 24, in this order, and nothing is altered.
@@ -196,32 +142,21 @@ pub fn load_hours(settings: &mut [u8], file: &[u8]) -> u32
     if settings.len() != SETTINGS {
         return MISPLACED;
     }
-    let heading = HEADING;
-    if !begins(file, &heading) {
+    let Some(lines) = file.strip_prefix(&HEADING) else {
         return BAD_HOURS;
-    }
-    let mut days = [0; DAYS_SIZE];
-    if !read_days(&mut days, &file[HEADING_SIZE..]) {
+    };
+    let Some(days) = read_days(lines) else {
         return BAD_HOURS;
-    }
+    };
     put_u32(settings, PLACE, SOME_HOURS);
     put_bytes(settings, PLACE + DAYS, &days);
     0
 }
 
-// Whether all bytes from `at` on are 0.
-fn are_zero(s: &[u8], at: usize) -> bool
-    requires { at ≤ length s.now }
-    ensures { result ≡ all_zero (drop at s.now) }
+fn are_zero(s: &[u8]) -> bool
+    ensures { result ≡ list_all (λ b. b == 0) s.now }
 {
-    let mut i = at;
-    while i < s.len() {
-        if s[i] != 0 {
-            return false;
-        }
-        i += 1;
-    }
-    true
+    s.iter().all(|b| *b == 0)
 }
 
 // Whether two numbers are those of a day: both 0, or a span.
@@ -229,25 +164,21 @@ fn is_day(opens: u32, closes: u32) -> bool
     ensures { result ≡ is_day opens closes }
 {
     if closes == 0 {
-        return opens == 0;
+        opens == 0
+    } else {
+        opens < closes && closes <= DAY_MINUTES
     }
-    if closes <= opens {
-        return false;
-    }
-    closes <= DAY_MINUTES
 }
 
 fn are_days(bytes: &[u8]) -> bool
     requires { length bytes.now ≡ hours_size }
     ensures { result ≡ are_days (numbers (drop 4 bytes.now)) }
 {
-    let mut at = DAYS;
-    while at < HOURS {
-        let word = u32_at(bytes, at);
+    for day in 0..WEEK as usize {
+        let word = u32_at(bytes, DAYS + DAY * day);
         if !is_day(word % HIGH, word / HIGH) {
             return false;
         }
-        at += DAY;
     }
     true
 }
@@ -259,14 +190,11 @@ pub fn is_hours(bytes: &[u8]) -> bool
     if bytes.len() != HOURS {
         return false;
     }
-    let flag = u32_at(bytes, 0);
-    if flag == NO_HOURS {
-        return are_zero(bytes, DAYS);
+    match u32_at(bytes, 0) {
+        NO_HOURS => are_zero(&bytes[DAYS..]),
+        SOME_HOURS => are_days(bytes),
+        _ => false,
     }
-    if flag != SOME_HOURS {
-        return false;
-    }
-    are_days(bytes)
 }
 
 // Whether the hours in some bytes let a push start at a moment.
@@ -281,20 +209,14 @@ fn lets_at(bytes: &[u8], moment: u32) -> bool
     let weekday = (day + FIRST_WEEKDAY) % WEEK;
     let minute = moment % DAY_SECONDS / MINUTE;
     let word = u32_at(bytes, DAYS + DAY * weekday as usize);
-    if minute < word % HIGH {
-        return false;
-    }
-    minute < word / HIGH
+    word % HIGH <= minute && minute < word / HIGH
 }
 
 // The same of any bytes: where they are too few there are no hours.
 pub fn lets_in(bytes: &[u8], moment: u32) -> bool
     ensures { result ≡ lets_in bytes.now moment }
 {
-    if bytes.len() < HOURS {
-        return true;
-    }
-    lets_at(bytes, moment)
+    bytes.len() < HOURS || lets_at(bytes, moment)
 }
 
 // Whether the hours in the settings let a push start at a moment. 0; 3, 24 or 25, in this order.

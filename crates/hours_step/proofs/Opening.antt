@@ -20,8 +20,8 @@ use Rattle.hours.specs.Settings.{hours_size, hours_place, hours_bytes_in, is_hou
 use Rattle.hours_totals.specs.Crossing.{timed_size, open_timed, timed_open}
 use Rattle.hours_step.specs.Opening.{refused_table, refused_anyway}
 use Rattle.id_table.specs.Settings.{settings_size, lent_in}
-use Rattle.id_table.specs.declared.Lent.{Lent}
-use Rattle.id_table.specs.declared.Lent.TheVariants as L
+use Rattle.id_table.specs.Lent.{Lent}
+use Rattle.id_table.specs.Lent as L
 use Rattle.id_table.proofs.Laws.{id-tables}
 use Rattle.session.specs.Calls.{open_refusal}
 use Rattle.session.specs.Core.{features_from}

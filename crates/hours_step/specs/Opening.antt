@@ -4,8 +4,8 @@ use Rattle.std.specs.Prelude.{ℕ, List, ltb}
 use Rattle.protocol.specs.Bytes.{pick}
 use Rattle.hours.specs.Settings.{bad_hours}
 use Rattle.id_table.specs.Settings.{lent_in}
-use Rattle.id_table.specs.declared.Lent.{Lent}
-use Rattle.id_table.specs.declared.Lent.TheVariants as L
+use Rattle.id_table.specs.Lent.{Lent}
+use Rattle.id_table.specs.Lent as L
 use Rattle.session.specs.Calls.{open_refusal}
 
 -- 22 or 23, and else 24

@@ -14,13 +14,12 @@ ghost use Rattle.record.specs.Record.{loaded, size};
 ghost use Rattle.totals_step.specs.Settled.{room_for};
 
 use boundary::REPLY;
-use boundary_reply::put_three;
-use format_number::put_bytes;
-use hours::{is_hours, lets_in};
+use format_number::{put_bytes, put_u64s};
+use hours::{END, PLACE, is_hours, lets_in};
 use hours_taken::takes_push;
-use id_table::{Lent, table_in};
+use id_table::{SETTINGS, table_in};
 use record::SIZE;
-use session_calls::open_refusal;
+use session_calls::check_open;
 use totals_step::{refused, total_fault, total_open, total_read, total_start, total_wrote};
 
 // The length of a record, and where its hours lie.
@@ -28,19 +27,13 @@ const TIMED: usize = 328;
 
 const HOURS: usize = 296;
 
-// The length of settings, and where their hours lie.
-const SETTINGS: usize = 128;
-
-const FROM: usize = 60;
-
-const TO: usize = 92;
-
 // The numbers of the calls that start a push.
 const SEND: u32 = 7;
 
 const SND2: u32 = 8;
 
-// What is returned for answer 3, to a record of another length, and for 25, to a push start outside the hours.
+// What is returned for answer 3, to a record of another length, and for 25, to a push start outside the hours: the numbers that cross to C, which also lends
+// each slice by itself.
 const AWAY: u32 = 768;
 
 const CLOSED: u32 = 6400;
@@ -99,21 +92,19 @@ fn lacks_hours(settings: &[u8]) -> bool
     if settings.len() != SETTINGS {
         return false;
     }
-    !is_hours(&settings[FROM..TO])
+    !is_hours(&settings[PLACE..END])
 }
 
 // What an opening with such settings answers: 1, 2, 22 or 23, and else 24.
 fn without_hours(settings: &[u8], rx: usize, msg: usize) -> u32
     ensures { result ≡ refused_anyway settings.now rx msg }
 {
-    let n = open_refusal(rx, msg);
-    if 0 < n {
-        return n as u32;
+    if let Err(misuse) = check_open(rx, msg) {
+        return misuse.number() as u32;
     }
-    let lent = table_in(settings);
-    match lent {
-        Lent::Refused(n) => n as u32,
-        Lent::Ids(_) => BAD_HOURS,
+    match table_in(settings) {
+        Err(why) => why.number(),
+        Ok(_) => BAD_HOURS,
     }
 }
 
@@ -130,7 +121,7 @@ pub fn timed_open(rec: &mut [u8], settings: &[u8], banner: &[u8], rx: usize, msg
     }
     let n = total_open(&mut rec[..HOURS], settings, banner, rx, msg);
     if n == 0 {
-        put_bytes(rec, HOURS, &settings[FROM..TO]);
+        put_bytes(rec, HOURS, &settings[PLACE..END]);
         return 0;
     }
     n
@@ -164,7 +155,7 @@ pub fn timed_start(
         moment,
         out.len(),
     ) {
-        put_three(out, OTHER, 0, 0);
+        put_u64s(out, 0, [OTHER, 0, 0]);
         return refused(CLOSED, out);
     }
     total_start(&mut rec[..HOURS], rx, msg, lent, call, a, b, out)

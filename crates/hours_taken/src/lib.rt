@@ -10,10 +10,10 @@ ghost use Rattle.hours_taken.specs.Taken.{push_numbered, takes_push};
 
 use features::Features;
 use format_flags::{FileMode, SyncFlags};
-use record_load::{Loaded, load};
+use record_load::load;
 use request::Request;
-use request_refusal::{Check, check_request};
-use session_calls::call_refusal;
+use request_refusal::check_request;
+use session_calls::check_call;
 
 // The number of a push start of version 1; the other is version 2.
 const SEND: u32 = 7;
@@ -32,26 +32,16 @@ fn push(call: u32, a: u32, b: u32) -> Request
 fn unrefused(features: Features, q: Request, lent: &[u8]) -> bool
     ensures { result ≡ is_none (request_refusal (setting features) (meant q lent.now)) }
 {
-    let check = check_request(features, q, lent);
-    match check {
-        Check::Fine => true,
-        Check::Refused(_) => false,
-        Check::Missing(_) => false,
-    }
+    check_request(features, q, lent).is_ok()
 }
 
 // The session in a record takes a push start; rx and msg are the lengths of the buffers that are lent with it, and lent is its path.
+#[tactic(auto, unfolding(crate::specs::Taken::takes_push))]
 pub fn takes_push(rec: &[u8], rx: usize, msg: usize, lent: &[u8], call: u32, a: u32, b: u32) -> bool
     ensures { result ≡ takes_push (loaded rec.now) rx msg lent.now call a b }
 {
-    let loaded = load(rec);
-    match loaded {
-        Loaded::Unknown => false,
-        Loaded::Session(s) => {
-            if 0 < call_refusal(s, rx, msg) {
-                return false;
-            }
-            unrefused(s.features, push(call, a, b), lent)
-        }
-    }
+    let Some(s) = load(rec) else {
+        return false;
+    };
+    check_call(s, rx, msg).is_ok() && unrefused(s.features, push(call, a, b), lent)
 }

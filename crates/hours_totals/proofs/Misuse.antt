@@ -13,8 +13,8 @@ use Rattle.protocol.specs.Answers.{Answer, refused, number}
 use Rattle.protocol.specs.Bytes.{pick}
 use Rattle.protocol.specs.Refusal.{or_else, refuse, is_none}
 use Rattle.id_table.specs.Settings.{lent_in}
-use Rattle.id_table.specs.declared.Lent.{Lent}
-use Rattle.id_table.specs.declared.Lent.TheVariants as L
+use Rattle.id_table.specs.Lent.{Lent}
+use Rattle.id_table.specs.Lent as L
 use Rattle.boundary.specs.Crossing.{OpenCrossed}
 use Rattle.boundary_misuse.specs.Claim.{Opens}
 use Rattle.boundary_misuse.specs.Misuse.{table_refused, open_refused}

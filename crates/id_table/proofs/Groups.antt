@@ -1,23 +1,26 @@
 -- Laws of `specs/Places.antt` for the loops: one group more, and four bytes by the number that they spell. Assumes nothing.
 use mathlib.Core.Bool.{Bool, true, false, ◌&&◌, and-true}
-use mathlib.Core.List.{List, [], ◌∷◌, ◌++◌, append-nil}
-use mathlib.Core.Path.{◌≡◌, refl, sym, ap, ◌∙◌}
-use Prim.Native.Nat.{ℕ, zero, suc, ◌+◌, ◌-◌, ◌*◌, ◌≤◌, ◌<◌}
+use mathlib.Core.List.{List, [], ◌∷◌, map}
+use mathlib.Core.Path.{◌≡◌, refl, sym, ap, ap₂, ◌∙◌}
+use Prim.Native.Nat.{ℕ, zero, suc, ◌+◌, ◌-◌, ◌*◌, ◌/◌, ◌≤◌, ◌<◌}
 use native.Mathlib.Decide.{ℕ_discrete}
 use native.Mathlib.Numerals.{add-one}
 use native.Mathlib.Omega.{arith}
 use borrow.Author.Tests.{eq-eqb, ne_eqb}
 use lib.Dec.{eqb}
-use lib.ListN.{length, take, drop, get_or, set, replicate, length-drop, length-replicate, replicate-append-replicate}
-use lib.Seq.{drop-cons, drop-drop, drop-length, get_or-drop, length-take-le, set_at, append_snoc}
+use lib.ListN.{length, take, drop, get_or, length-drop, drop_of_length-le}
+use lib.Seq.{drop-cons, drop-drop, get_or-drop, length-take-le}
 use Rattle.protocol.specs.Bytes.{Bytes, same, le, bytes_of, number_at, whole, over, put}
 use Rattle.protocol.specs.Ids.{is_letter, is_value}
 use Rattle.protocol.specs.Messages.{joined}
 use Rattle.protocol.specs.Records.{u32_at}
-use Rattle.protocol.proofs.Bytes.{same_refl, same-eq, bytes_of-le, bytes-head, bytes-tail, bytes_drop, whole_in, over-over, put_in}
+use Rattle.protocol.proofs.Bytes.{same_refl, same-eq, bytes_of-le, bytes-head, bytes-tail, bytes_drop, whole_in, over-over, put_in, end_whole}
 use Rattle.protocol.proofs.Records.{id-in}
 use Rattle.text_lines.specs.Lines.{comma, line_end}
-use Rattle.id_table.specs.Places.{groups, marked}
+use Rattle.std.specs.Simd.{first_chunks}
+use Rattle.std.proofs.lemmas.List.{take-take}
+use Rattle.id_table.specs.IdsFile.{count}
+use Rattle.id_table.specs.Places.{groups, marked, line_size, file_size}
 
 -- the first of the groups that are left, and the others
 pub groups-next : (step n : ℕ) (s : List ℕ) (at : ℕ) → 0 < n
@@ -101,13 +104,29 @@ pub value_in : (s : List ℕ) (at : ℕ) → at + 4 ≤ length s
     ≡ is_letter (get_or s at 0) && (is_letter (get_or s (at + 1) 0) && (is_letter (get_or s (at + 2) 0) && is_letter (get_or s (at + 3) 0)))
 value_in s at h = rw (id-in s at h, and-true)
 
--- zeros up to a place: one more, and all
-pub zeros-next : (s : List ℕ) (i : ℕ) → i < length s → set (replicate i 0 ++ drop i s) i 0 ≡ replicate (i + 1) 0 ++ drop (i + 1) s
-zeros-next s i h =
-    rw (drop-cons s i 0 h, set_at (replicate i 0) (get_or s i 0) (drop (suc i) s) 0 i (length-replicate i 0), ← (replicate-append-replicate {A = ℕ} i 1 0), add-one)
-    (sym (append_snoc (replicate i 0) 0 (drop (suc i) s)))
+-- the first four bytes of each piece, as groups
+pub chunk-groups : (step n : ℕ) (s : List ℕ) → 4 ≤ step → map (take 4) (first_chunks step n s) ≡ groups step n s
+unfolding groups
+chunk-groups step zero s h = refl
+chunk-groups step (suc n) s h = ap₂ (λ (x : List ℕ) (xs : List (List ℕ)). x ∷ xs) (take-take 4 step s h) (chunk-groups step n (drop step s) h)
 
-pub zeros-all : (s : List ℕ) (i : ℕ) → i ≤ length s → length s ≤ i → replicate i 0 ++ drop i s ≡ replicate (length s) 0
-zeros-all s i h k =
-    let e : i ≡ length s = omega arith in
-    rw (e, drop-length s, append-nil)
+-- ... of the settings, and of a file's second line
+pub settings-groups : (s : List ℕ) → length s ≡ 128 → map (take 4) (take count (first_chunks 4 (length s / 4) s)) ≡ groups 4 count s
+settings-groups s e = rw e (chunk-groups 4 count s (omega arith))
+
+pub line-count : (f : List ℕ) → length f ≡ file_size → length (take (length f - line_size) (drop line_size f)) / 5 ≡ count
+line-count f e = rw (end_whole f line_size (omega arith)) (omega (arith, length-drop line_size f))
+
+pub line-groups : (f : List ℕ) → length f ≡ file_size
+    → map (take 4) (first_chunks 5 (length (take (length f - line_size) (drop line_size f)) / 5) (take (length f - line_size) (drop line_size f))) ≡ groups 5 count (drop line_size f)
+line-groups f e =
+    let n : length (drop line_size f) / 5 ≡ count = omega (arith, length-drop line_size f) in
+    rw (end_whole f line_size (omega arith), n) (chunk-groups 5 count (drop line_size f) (omega arith))
+
+-- the i-th and those behind it
+pub fours-next : (ids : List (List ℕ)) (i : ℕ) (d : List ℕ) → i < length ids
+    → map (take 4) (drop i ids) ≡ take 4 (get_or ids i d) ∷ map (take 4) (drop (i + 1) ids)
+fours-next ids i d h = rw (drop-cons ids i d h, add-one)
+
+pub fours_none : (ids : List (List ℕ)) (i : ℕ) → length ids ≤ i → map (take 4) (drop i ids) ≡ []
+fours_none ids i h = rw (drop_of_length-le ids {i = i} h)

@@ -23,7 +23,7 @@ use Rattle.id_table.specs.Claim.{FileOf, TwoEqual, LentTable, IdTables}
 use Rattle.id_table.specs.IdsFile.{count, bad_form, equal_values, IdsRead, ids, refused, are_values, two_equal, checked, heading, ids_in, file_with, ids_file}
 use Rattle.id_table.specs.Places.{groups, file_size, fault_of}
 use Rattle.id_table.specs.Settings.{settings_size, table_size, room_size, misplaced, place, table_from, table_in, settings_of, taken, loaded, lent, lent_in}
-use Rattle.id_table.specs.declared.Lent.TheVariants as L
+use Rattle.id_table.specs.Lent as L
 use Rattle.id_table.proofs.Form.{checked-bad, checked-equal, checked-good, Fours, fours, four, read-with, with_size, Reads, reads}
 use Rattle.id_table.proofs.Tables.{in_groups}
 

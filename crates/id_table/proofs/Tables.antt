@@ -2,6 +2,7 @@
 use mathlib.Core.List.{List, [], ◌∷◌, map}
 use mathlib.Core.Bool.{Bool, true, false}
 use mathlib.Core.Path.{◌≡◌, refl, sym, ap, ◌∙◌}
+use Rattle.std.specs.Prelude.{Result, Ok, Err}
 use Prim.Native.Nat.{ℕ, zero, suc, ◌+◌, ◌*◌, ◌≤◌}
 use native.Mathlib.Omega.{arith}
 use lib.ListN.{length, take, drop}
@@ -14,7 +15,10 @@ use Rattle.ids.specs.Ids.{ids_of}
 use Rattle.ids.specs.declared.Ids.{Ids}
 use Rattle.id_table.specs.IdsFile.{count, IdsRead, ids, refused, are_values, two_equal, checked}
 use Rattle.id_table.specs.Places.{groups, fault_of}
+use Rattle.id_table.specs.Refusal.{number_of, answer_of}
 use Rattle.id_table.specs.Settings.{settings_size, table_in}
+use Rattle.id_table.specs.declared.IdsRefusal.{IdsRefusal}
+use Rattle.id_table.specs.declared.IdsRefusal.TheVariants.{Misplaced, BadForm, EqualValues}
 use Rattle.id_table.proofs.Form.{checked-bad, checked-equal, checked-good}
 use Rattle.id_table.proofs.Groups.{word_in}
 
@@ -62,18 +66,27 @@ numbers-in s e =
       word_in s 56 (omega arith),
     )
 
--- what the number of a fault says
-pub refused-by : (vs : List (List ℕ)) (n : ℕ) → n ≡ fault_of (checked vs) → (n ≡ 0 → ⊥) → checked vs ≡ refused n
-refused-by vs n e f = go (checked vs) e
-  where
-    go : (r : IdsRead) → n ≡ fault_of r → r ≡ refused n
-    go (ids us) g = absurd (f g)
-    go (refused k) g = ap refused (sym g)
+-- what a fault says
+module _ (vs : List (List ℕ)) (r : Result Unit IdsRefusal) (e : answer_of r ≡ fault_of (checked vs)) where
+  pub refused-by : (why : IdsRefusal) → r ≡ Err why → checked vs ≡ refused (number_of why)
+  refused-by why f = go (checked vs) (ap answer_of (sym f) ∙ e)
+    where
+      some : (w : IdsRefusal) → number_of w ≡ 0 → ⊥
+      some Misplaced h = omega (arith, h)
+      some BadForm h = omega (arith, h)
+      some EqualValues h = omega (arith, h)
 
-pub taken-by : (vs : List (List ℕ)) (n : ℕ) → length vs ≡ count → n ≡ fault_of (checked vs) → n ≡ 0 → checked vs ≡ ids vs
-taken-by vs n fifteen e z = go (are_values vs) refl (two_equal vs) refl
-  where
-    go : (t : Bool) → are_values vs ≡ t → (u : Bool) → two_equal vs ≡ u → checked vs ≡ ids vs
-    go true h false k = checked-good vs fifteen h k
-    go true h true k = absurd (omega (arith, ap fault_of (checked-equal vs fifteen h k)))
-    go false h u k = absurd (omega (arith, ap fault_of (checked-bad vs h)))
+      go : (q : IdsRead) → number_of why ≡ fault_of q → q ≡ refused (number_of why)
+      go (ids us) g = absurd (some why g)
+      go (refused k) g = ap refused (sym g)
+
+  pub taken-by : length vs ≡ count → (u : Unit) → r ≡ Ok u → checked vs ≡ ids vs
+  taken-by fifteen u f = go (are_values vs) refl (two_equal vs) refl
+    where
+      zero_fault : 0 ≡ fault_of (checked vs)
+      zero_fault = ap answer_of (sym f) ∙ e
+
+      go : (t : Bool) → are_values vs ≡ t → (u : Bool) → two_equal vs ≡ u → checked vs ≡ ids vs
+      go true h false k = checked-good vs fifteen h k
+      go true h true k = absurd (omega (arith, zero_fault, ap fault_of (checked-equal vs fifteen h k)))
+      go false h u k = absurd (omega (arith, zero_fault, ap fault_of (checked-bad vs h)))

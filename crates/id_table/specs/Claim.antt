@@ -8,7 +8,7 @@ use Rattle.ids.specs.Ids.{dialect_of, ids_of}
 use Rattle.id_table.specs.IdsFile.{count, bad_form, equal_values, ids, refused, are_values, ids_in, file_with, ids_file}
 use Rattle.id_table.specs.Places.{file_size}
 use Rattle.id_table.specs.Settings.{settings_size, table_size, misplaced, table_from, table_in, settings_of, loaded, lent_in}
-use Rattle.id_table.specs.declared.Lent.TheVariants as L
+use Rattle.id_table.specs.Lent as L
 
 -- a file is that of a table, which has those values
 pub record FileOf (file : List ℕ) (values : List (List ℕ)) : Type 0 where

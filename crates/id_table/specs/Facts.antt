@@ -8,8 +8,8 @@ use Rattle.protocol.specs.Fact.{Fact}
 use Rattle.id_table.specs.IdsFile.{IdsRead, ids, ids_in}
 use Rattle.id_table.specs.IdsFile as I
 use Rattle.id_table.specs.Settings.{begun, loaded, lent_in}
-use Rattle.id_table.specs.declared.Lent.{Lent}
-use Rattle.id_table.specs.declared.Lent.TheVariants as L
+use Rattle.id_table.specs.Lent.{Lent}
+use Rattle.id_table.specs.Lent as L
 
 -- ---- files
 

@@ -7,8 +7,8 @@ use Rattle.protocol.specs.Ids.{Id, all, letters, Table, STAT, STA2, LIST, LIS2, 
 use Rattle.protocol.specs.Messages.{joined}
 use Rattle.ids.specs.Ids.{ids_of}
 use Rattle.id_table.specs.IdsFile.{IdsRead, ids, refused, checked, ids_in}
-use Rattle.id_table.specs.declared.Lent.{Lent}
-use Rattle.id_table.specs.declared.Lent.TheVariants as L
+use Rattle.id_table.specs.Lent.{Lent}
+use Rattle.id_table.specs.Lent as L
 
 abbrev pub settings_size : ℕ
 settings_size = 128

@@ -1,20 +1,21 @@
 // The fifteen ids from a file, and in the settings that the host lends (document 02, [9]).
 #![tactic(auto)]
 
-ghost use Rattle.std.specs.Prelude.{List, ◌≡◌, ℕ, ◌+◌, ◌*◌, ◌≤◌, length, take, drop, replicate};
-ghost use Rattle.protocol.specs.Bytes.{over};
+ghost use Rattle.std.specs.Prelude.{map, List, ◌≡◌, ℕ, ◌+◌, ◌*◌, ◌≤◌, length, take, drop};
+ghost use Rattle.protocol.specs.Bytes.{over, same};
 ghost use Rattle.protocol.specs.Features.{some_is};
 ghost use Rattle.protocol.specs.Ids.{is_letter, is_value};
 ghost use Rattle.protocol.specs.Messages.{joined};
 ghost use Rattle.id_table.specs.IdsFile.{count, are_values, two_equal, checked, same_all};
 ghost use Rattle.id_table.specs.Places.{groups, marked, line_size, file_size, formed, fault_of};
+ghost use Rattle.id_table.specs.Refusal.{number_of, answer_of, lent_of};
 ghost use Rattle.id_table.specs.Settings.{settings_size, begun, loaded, lent_in};
 
 use format_number::{put_bytes, put_u32, u32_at, u64_at};
 use ids::Ids;
 
 // Settings: the fifteen ids in the order of SyncId::ALL, four bytes each; the rest is room, for the hours.
-const SETTINGS: usize = 128;
+pub const SETTINGS: usize = 128;
 
 const COUNT: usize = 15;
 
@@ -30,113 +31,97 @@ const FILE: usize = 150;
 
 const PUBLISHED: [u8; 60] = *b"STATSTA2LISTLIS2SENDSND2RECVRCV2DATADONEOKAYFAILDENTDNT2QUIT";
 
-// The numbers of refusals: settings of another length, another form, two equal values.
-const MISPLACED: u8 = 3;
+// Why settings or a file have no table, with the refusal's number.
+#[derive(Clone, Copy, PartialEq, Eq)]
+pub enum IdsRefusal {
+    // Settings of another length.
+    Misplaced = 3,
+    // No file of ids, or a value that is none.
+    BadForm = 22,
+    EqualValues = 23,
+}
 
-const BAD_FORM: u8 = 22;
-
-const EQUAL_VALUES: u8 = 23;
-
-// Settings as they are lent: the ids that their table has, or why not.
-#[derive(Clone, Copy)]
-pub enum Lent {
-    Ids(Ids),
-    Refused(u8),
+impl IdsRefusal {
+    pub fn number(self) -> u32
+        ensures { result ≡ number_of self }
+    {
+        self as u32
+    }
 }
 
 fn is_letter(b: u8) -> bool
     ensures { result ≡ is_letter b }
 {
-    if b < 33 {
-        return false;
-    }
-    if 126 < b {
-        return false;
-    }
-    b != b','
+    matches!(b, 33..=126) && b != b','
 }
 
-// Whether the four bytes at `at` are a value.
-fn is_value(s: &[u8], at: usize) -> bool
-    requires { at + 4 ≤ length s.now }
-    ensures { result ≡ is_value (take 4 (drop at s.now)) }
+// Whether the first four bytes are a value.
+fn is_value(id: &[u8]) -> bool
+    requires { 4 ≤ length id.now }
+    ensures { result ≡ is_value (take 4 id.now) }
 {
-    if !is_letter(s[at]) {
-        return false;
-    }
-    if !is_letter(s[at + 1]) {
-        return false;
-    }
-    if !is_letter(s[at + 2]) {
-        return false;
-    }
-    is_letter(s[at + 3])
+    is_letter(id[0]) && is_letter(id[1]) && is_letter(id[2]) && is_letter(id[3])
 }
 
-// Whether all of the fifteen from `from` on are values.
-fn are_values(s: &[u8], from: usize, step: usize) -> bool
-    requires { (step ≤ 5) × (from + line_size ≤ length s.now) }
-    ensures { result ≡ are_values (groups step count (drop from s.now)) }
+// Whether all are values. (4 ≤ STEP is a clause: a computed const argument is none of Rattle.)
+fn are_values<const STEP: usize>(ids: &[[u8; STEP]]) -> bool
+    requires { 4 ≤ STEP }
+    ensures { result ≡ are_values (map (take 4) ids.now) }
 {
-    let mut at = from;
-    let mut left = COUNT;
-    while 0 < left {
-        if !is_value(s, at) {
+    for id in ids {
+        if !is_value(id) {
             return false;
         }
-        at += step;
-        left -= 1;
     }
     true
 }
 
-// Whether the four bytes at `at` stand again among the `n` behind them.
-fn stands_again(s: &[u8], at: usize, step: usize, n: usize) -> bool
-    requires { (step ≤ 5) × (at + 5 * n + 5 ≤ length s.now) }
-    ensures { result ≡ some_is (take 4 (drop at s.now)) (groups step n (drop (at + step) s.now)) }
+// Whether two begin with the same four bytes.
+fn are_same(id: &[u8], other: &[u8]) -> bool
+    requires { (4 ≤ length id.now) × (4 ≤ length other.now) }
+    ensures { result ≡ same (take 4 id.now) (take 4 other.now) }
 {
-    let value = u32_at(s, at);
-    let mut next = at + step;
-    let mut left = n;
-    while 0 < left {
-        if u32_at(s, next) == value {
+    u32_at(id, 0) == u32_at(other, 0)
+}
+
+// Whether the value is one of the others.
+fn stands_among<const STEP: usize>(id: &[u8; STEP], others: &[[u8; STEP]]) -> bool
+    requires { 4 ≤ STEP }
+    ensures { result ≡ some_is (take 4 id.now) (map (take 4) others.now) }
+{
+    for other in others {
+        if are_same(other, id) {
             return true;
         }
-        next += step;
-        left -= 1;
     }
     false
 }
 
-// Whether any two of the fifteen from `from` on are equal.
-fn two_equal(s: &[u8], from: usize, step: usize) -> bool
-    requires { (step ≤ 5) × (from + line_size ≤ length s.now) }
-    ensures { result ≡ two_equal (groups step count (drop from s.now)) }
+// Whether any two are equal.
+fn two_equal<const STEP: usize>(ids: &[[u8; STEP]]) -> bool
+    requires { 4 ≤ STEP }
+    ensures { result ≡ two_equal (map (take 4) ids.now) }
 {
-    let mut at = from;
-    let mut left = COUNT;
-    while 0 < left {
-        left -= 1;
-        if stands_again(s, at, step, left) {
+    for (i, id) in ids.iter().enumerate() {
+        if stands_among(id, &ids[i + 1..]) {
             return true;
         }
-        at += step;
     }
     false
 }
 
-// Why the fifteen from `from` on are no table; 0 where they are one.
-fn fault(s: &[u8], from: usize, step: usize) -> u8
-    requires { (step ≤ 5) × (from + line_size ≤ length s.now) }
-    ensures { result ≡ fault_of (checked (groups step count (drop from s.now))) }
+// Why the fifteen are no table.
+fn fault<const STEP: usize>(ids: &[[u8; STEP]]) -> Result<(), IdsRefusal>
+    requires { (4 ≤ STEP) × (length ids.now ≡ count) }
+    ensures { answer_of result ≡ fault_of (checked (map (take 4) ids.now)) }
 {
-    if !are_values(s, from, step) {
-        return BAD_FORM;
+    if !are_values(ids) {
+        return Err(IdsRefusal::BadForm);
     }
-    if two_equal(s, from, step) {
-        return EQUAL_VALUES;
+    if two_equal(ids) {
+        return Err(IdsRefusal::EqualValues);
     }
-    0
+    Ok(())
 }
 
 // Whether a comma stands behind each of the fifteen from `from` on, and byte 10 behind the last.
@@ -144,16 +129,12 @@ fn has_marks(s: &[u8], from: usize) -> bool
     requires { from + line_size ≤ length s.now }
     ensures { result ≡ marked count (drop from s.now) }
 {
-    let mut at = from;
-    let mut left = COUNT;
-    while 1 < left {
-        if s[at + 4] != b',' {
+    for i in 0..COUNT - 1 {
+        if s[from + IN_LINE * i + 4] != b',' {
             return false;
         }
-        at += IN_LINE;
-        left -= 1;
     }
-    s[at + 4] == b'\n'
+    s[from + LINE - 1] == b'\n'
 }
 
 // Whether a line begins with the names.
@@ -161,16 +142,10 @@ fn has_names(line: &[u8], names: &[u8]) -> bool
     requires { (line_size ≤ length line.now) × (length names.now ≡ 60) }
     ensures { result ≡ same_all (groups 5 count line.now) (groups 4 count names.now) }
 {
-    let mut at = 0;
-    let mut name = 0;
-    let mut left = COUNT;
-    while 0 < left {
-        if u32_at(line, at) != u32_at(names, name) {
+    for i in 0..COUNT {
+        if u32_at(line, IN_LINE * i) != u32_at(names, IN_SETTINGS * i) {
             return false;
         }
-        at += IN_LINE;
-        name += IN_SETTINGS;
-        left -= 1;
     }
     true
 }
@@ -179,17 +154,7 @@ fn has_names(line: &[u8], names: &[u8]) -> bool
 fn has_form(file: &[u8]) -> bool
     ensures { result ≡ formed file.now }
 {
-    if file.len() != FILE {
-        return false;
-    }
-    if !has_marks(file, 0) {
-        return false;
-    }
-    if !has_marks(file, LINE) {
-        return false;
-    }
-    let names = PUBLISHED;
-    has_names(file, &names)
+    file.len() == FILE && has_marks(file, 0) && has_marks(file, LINE) && has_names(file, &PUBLISHED)
 }
 
 // The values of a file into the settings.
@@ -197,25 +162,9 @@ fn copy_values(settings: &mut [u8], file: &[u8])
     requires { (length settings.old ≡ settings_size) × (length file.now ≡ file_size) }
     ensures { settings.new ≡ over settings.old 0 (joined (groups 5 count (drop line_size file.now))) }
 {
-    let mut at = LINE;
-    let mut to = 0;
-    let mut left = COUNT;
-    while 0 < left {
-        let value = u32_at(file, at);
-        put_u32(settings, to, value);
-        at += IN_LINE;
-        to += IN_SETTINGS;
-        left -= 1;
-    }
-}
-
-fn clear(settings: &mut [u8])
-    ensures { settings.new ≡ replicate (length settings.old) 0 }
-{
-    let mut i = 0;
-    while i < settings.len() {
-        settings[i] = 0;
-        i += 1;
+    for i in 0..COUNT {
+        let value = u32_at(file, LINE + IN_LINE * i);
+        put_u32(settings, IN_SETTINGS * i, value);
     }
 }
 
@@ -224,45 +173,50 @@ pub fn published(settings: &mut [u8]) -> u32
     ensures { ◌≡◌ {A = List ℕ × ℕ} (settings.new, result) (begun settings.old) }
 {
     if settings.len() != SETTINGS {
-        return MISPLACED as u32;
+        return IdsRefusal::Misplaced.number();
     }
-    clear(settings);
-    let names = PUBLISHED;
-    put_bytes(settings, 0, &names);
+    settings.fill(0);
+    put_bytes(settings, 0, &PUBLISHED);
     0
+}
+
+// The values of a file into the settings, or why not, and nothing is altered.
+fn load(settings: &mut [u8], file: &[u8]) -> Result<(), IdsRefusal>
+    ensures { ◌≡◌ {A = List ℕ × ℕ} (settings.new, answer_of result) (loaded settings.old file.now) }
+{
+    if settings.len() != SETTINGS {
+        return Err(IdsRefusal::Misplaced);
+    }
+    if !has_form(file) {
+        return Err(IdsRefusal::BadForm);
+    }
+    let (values, _) = file[LINE..].as_chunks::<IN_LINE>();
+    fault(values)?;
+    copy_values(settings, file);
+    Ok(())
 }
 
 // The values of a file into the settings; what stands behind the table stays. 0; 3, 22 or 23, in this order, and nothing is altered.
 pub fn load_ids(settings: &mut [u8], file: &[u8]) -> u32
     ensures { ◌≡◌ {A = List ℕ × ℕ} (settings.new, result) (loaded settings.old file.now) }
 {
-    if settings.len() != SETTINGS {
-        return MISPLACED as u32;
+    match load(settings, file) {
+        Ok(()) => 0,
+        Err(why) => why.number(),
     }
-    if !has_form(file) {
-        return BAD_FORM as u32;
-    }
-    let why = fault(file, LINE, IN_LINE);
-    if why != 0 {
-        return why as u32;
-    }
-    copy_values(settings, file);
-    0
 }
 
 // The table of settings that are lent. Refused with 3, 22 or 23, in this order.
-pub fn table_in(settings: &[u8]) -> Lent
-    ensures { result ≡ lent_in settings.now }
+pub fn table_in(settings: &[u8]) -> Result<Ids, IdsRefusal>
+    ensures { lent_of result ≡ lent_in settings.now }
 {
     if settings.len() != SETTINGS {
-        return Lent::Refused(MISPLACED);
+        return Err(IdsRefusal::Misplaced);
     }
-    let why = fault(settings, 0, IN_SETTINGS);
-    if why != 0 {
-        return Lent::Refused(why);
-    }
+    let (words, _) = settings.as_chunks::<IN_SETTINGS>();
+    fault(&words[..COUNT])?;
     let quit = u32_at(settings, 56) as u64;
-    Lent::Ids(Ids {
+    Ok(Ids {
         stat: u64_at(settings, 0),
         list: u64_at(settings, 8),
         send: u64_at(settings, 16),
@@ -270,6 +224,6 @@ pub fn table_in(settings: &[u8]) -> Lent
         data: u64_at(settings, 32),
         okay: u64_at(settings, 40),
         dent: u64_at(settings, 48),
-        quit: quit,
+        quit,
     })
 }

@@ -1,17 +1,13 @@
 // The ids that host and panel agree on: the numbers that their four bytes spell, two to a field, the first in the lower half.
 #![tactic(auto)]
 
-ghost use Rattle.std.specs.Prelude.{◌≡◌, length};
+ghost use Rattle.std.specs.Prelude.{◌≡◌};
 ghost use Rattle.protocol.specs.Bytes.{le};
 ghost use Rattle.protocol.specs.Ids.{letters, named};
 ghost use Rattle.format_id.specs.Ids.{id_of, found_id};
 ghost use Rattle.ids.specs.Ids.{lower, upper, number_of, dialect_of, ids_of};
 
-use format_id::{Found, SyncId};
-use format_number::u32_at;
-
-// How many ids there are.
-const COUNT: usize = 15;
+use format_id::SyncId;
 
 #[derive(Clone, Copy)]
 pub struct Ids {
@@ -25,6 +21,7 @@ pub struct Ids {
     pub quit: u64,
 }
 
+// (The low half by its remainder: an `as` loses no bits here.)
 fn lower(n: u64) -> u32
     ensures { result ≡ lower n }
 {
@@ -77,27 +74,15 @@ impl Ids {
         }
     }
 
-    // The id that four bytes are.
-    pub fn from_bytes(self, b: [u8; 4]) -> Found
+    // The id that four bytes are: the first whose number has them.
+    pub fn from_bytes(self, b: [u8; 4]) -> Option<SyncId>
         ensures { found_id result ≡ named (dialect_of self) b }
     {
-        self.find(&b)
-    }
-
-    // The first whose number they spell.
-    fn find(self, s: &[u8]) -> Found
-        requires { length s.now ≡ 4 }
-        ensures { found_id result ≡ named (dialect_of self) s.now }
-    {
-        let n = u32_at(s, 0);
-        let mut i = 0;
-        while i < COUNT {
-            let id = SyncId::ALL[i];
-            if self.number(id) == n {
-                return Found::Id(id);
+        for id in SyncId::ALL {
+            if self.number(id).to_le_bytes() == b {
+                return Some(id);
             }
-            i += 1;
         }
-        Found::Nothing
+        None
     }
 }

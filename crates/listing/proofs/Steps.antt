@@ -1,9 +1,10 @@
 -- What the program's functions come to, arm by arm. Assumes nothing.
 use mathlib.Core.List.{List}
-use mathlib.Core.Path.{◌≡◌, sym, ap, ◌∙◌}
+use mathlib.Core.Path.{◌≡◌, refl, sym, ap, ◌∙◌}
 use Prim.Native.Nat.{ℕ}
 use borrow.Author.Tests.{eq-eqb, ne_eqb}
 use Rattle.session.specs.declared.Reply.{Reply}
+use Rattle.session.specs.declared.Reply.TheVariants as R
 use Rattle.session.specs.declared.Stepped.{Stepped}
 use Rattle.session.specs.declared.Version.TheVariants.{V1}
 use Rattle.session.specs.Calls.{entry_call}
@@ -19,6 +20,18 @@ told_of s q e rx msg = ap (λ (x : Reply). record { st = st s.session rx msg; an
 pub ended_of : {t : Told} (o : Out) (q : Reply) → o.reply ≡ q → t ≡ ended_by o q → t ≡ ended o
 unfolding ended
 ended_of o q e h = h ∙ ap (ended_by o) (sym e)
+
+-- a step that asks no read
+pub ended-unasked : {t : Told} (o : Out) → ((at len : ℕ) → o.reply ≡ R.Read at len → ⊥) → t ≡ told_by o → t ≡ ended o
+ended-unasked {t} o other h = go o.reply refl
+  where
+    go : (q : Reply) → o.reply ≡ q → t ≡ ended o
+    go (R.Told a) e = ended_of o _ e h
+    go (R.Read at len) e = absurd (other at len e)
+    go (R.WriteRx at len) e = ended_of o _ e h
+    go (R.WriteLent at len) e = ended_of o _ e h
+    go (R.WriteBytes p) e = ended_of o _ e h
+    go R.Close e = ended_of o _ e h
 
 -- the first step, without input and with some
 pub first-none : (s : St) (n : ℕ) → n ≡ 0 → first_out s n ≡ entry_call s V1 0

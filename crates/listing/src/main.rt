@@ -15,10 +15,10 @@ ghost use Rattle.listing.specs.Steps.{told, told_by, ended, first_out, line_of, 
 use format_record::StatV1;
 use ids::Ids;
 use listing_lines::{put_end, put_entry, put_heading};
+use program_io::read_full;
 use session::{Answer, Fault, Reply, Session, Stepped, Version};
-use session_calls::{Opened, next_entry, open};
+use session_calls::{next_entry, open};
 use session_part::part;
-use std::io;
 
 // A listing step that is over.
 #[derive(Clone, Copy)]
@@ -27,7 +27,7 @@ struct Heard {
     answer: Answer,
 }
 
-// What an answer is printed as: an entry's line, or the end with its number.
+// What an answer is printed as: an entry's line, or the end with its number, which need be no error (`line_of` of specs/Steps speaks of it).
 #[derive(Clone, Copy)]
 enum Line {
     Entry(StatV1),
@@ -38,21 +38,7 @@ fn line_of(a: Answer) -> Line
     ensures { result ≡ line_of a }
 {
     match a {
-        Answer::Done => Line::End(0),
-        Answer::End => Line::End(0),
-        Answer::StatV1(_) => Line::End(0),
-        Answer::StatV2(_) => Line::End(0),
-        Answer::EntryV1 {
-            stat,
-            at: _,
-            len: _,
-        } => Line::Entry(stat),
-        Answer::EntryV2 {
-            stat: _,
-            at: _,
-            len: _,
-        } => Line::End(0),
-        Answer::Chunk { at: _, len: _ } => Line::End(0),
+        Answer::EntryV1 { stat, .. } => Line::Entry(stat),
         Answer::Refused(n) => Line::End(n),
         Answer::Missing(_) => Line::End(10),
         Answer::Closed => Line::End(12),
@@ -61,36 +47,25 @@ fn line_of(a: Answer) -> Line
         Answer::Unexpected(_, _, _, _) => Line::End(15),
         Answer::Errno(_) => Line::End(16),
         Answer::TooLarge => Line::End(17),
+        Answer::Done
+        | Answer::End
+        | Answer::StatV1(_)
+        | Answer::StatV2(_)
+        | Answer::EntryV2 { .. }
+        | Answer::Chunk { .. } => Line::End(0),
     }
 }
 
 fn answer_of(step: Stepped) -> Heard
     ensures { (rx msg : List ℕ) → told result rx msg ≡ told_by (out step rx msg) }
 {
-    let session = step.session;
-    let reply = step.reply;
-    match reply {
-        Reply::Told(answer) => Heard { session, answer },
-        Reply::Read { at: _, len: _ } => Heard {
-            session,
-            answer: Answer::Done,
-        },
-        Reply::WriteRx { at: _, len: _ } => Heard {
-            session,
-            answer: Answer::Done,
-        },
-        Reply::WriteLent { at: _, len: _ } => Heard {
-            session,
-            answer: Answer::Done,
-        },
-        Reply::WriteBytes(_) => Heard {
-            session,
-            answer: Answer::Done,
-        },
-        Reply::Close => Heard {
-            session,
-            answer: Answer::Done,
-        },
+    let answer = match step.reply {
+        Reply::Told(answer) => answer,
+        _ => Answer::Done,
+    };
+    Heard {
+        session: step.session,
+        answer,
     }
 }
 
@@ -98,17 +73,12 @@ fn answer_of(step: Stepped) -> Heard
 fn settle(step: Stepped, rx: &mut [u8], msg: &mut [u8]) -> Heard
     ensures { told result rx.new msg.new ≡ ended (out step rx.old msg.old) }
 {
-    let reply = step.reply;
-    match reply {
-        Reply::Told(_) => answer_of(step),
-        Reply::Read { at: _, len: _ } => {
+    match step.reply {
+        Reply::Read { .. } => {
             let session = step.session;
             answer_of(session_faults::fault(session, rx, msg, 0, Fault::Error(0)))
         }
-        Reply::WriteRx { at: _, len: _ } => answer_of(step),
-        Reply::WriteLent { at: _, len: _ } => answer_of(step),
-        Reply::WriteBytes(_) => answer_of(step),
-        Reply::Close => answer_of(step),
+        _ => answer_of(step),
     }
 }
 
@@ -160,6 +130,7 @@ fn walk(s: Session, rx: &mut [u8], msg: &mut [u8], n: usize, out: &mut [u8], fro
 {
     let mut at = from;
     let mut heard = first(s, rx, msg, n);
+    // no `for`: the answer to each step says whether there is another
     loop {
         let answer = heard.answer;
         let line = line_of(answer);
@@ -184,27 +155,12 @@ fn list(rx: &mut [u8], msg: &mut [u8], n: usize, out: &mut [u8]) -> usize
     let ids = Ids::published();
     let opened = open(b"", ids, rx.len(), msg.len());
     match opened {
-        Opened::Session(s) => {
+        Ok(s) => {
             let from = put_heading(out, 0);
             walk(s, rx, msg, n, out, from)
         }
-        Opened::Refused(_) => 0,
+        Err(_) => 0,
     }
-}
-
-// Reads until buf is full, the input ends or a read fails: how many bytes came.
-fn read_full(input: &mut impl io::Read, buf: &mut [u8]) -> usize
-    ensures { result ≤ length buf.new }
-{
-    let mut done = 0;
-    while done < buf.len() {
-        let count = input.read(&mut buf[done..]).unwrap_or(0);
-        if count == 0 {
-            return done;
-        }
-        done += count;
-    }
-    done
 }
 
 fn main(rt: HostRuntime) {

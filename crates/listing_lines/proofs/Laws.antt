@@ -8,11 +8,14 @@ use native.Mathlib.Omega.{arith}
 use borrow.Author.Tests.{le-leb, lt-leb}
 use lib.ListN.{length, set, get_or, take, drop, length-append, take-append-drop}
 use lib.Seq.{set_split, take-suc, take-length, append_snoc}
-use Rattle.protocol.specs.Bytes.{ascii, over, put, put_length}
+use Rattle.std.specs.Prelude.{Option, Some}
+use Rattle.decimal.specs.Fitted.{fitted}
+use Rattle.decimal.proofs.Fitted.{fitted-in, end-fitted, some-some}
+use Rattle.protocol.specs.Bytes.{ascii, over, put}
 use Rattle.protocol.specs.Decimal.{decimal}
 use Rattle.protocol.specs.Modes.{octal}
 use Rattle.protocol.specs.Records.{Stat}
-use Rattle.protocol.proofs.Bytes.{over-length, over-over, put_in, put_length-in, end_whole, end_back, end-put, end-put_length}
+use Rattle.protocol.proofs.Bytes.{over-length, over-over, put_in, end_whole, end_back, end-put}
 use Rattle.protocol.proofs.Decimal.{decimal-length}
 use Rattle.protocol.proofs.Modes.{octal-length}
 use Rattle.listing_lines.specs.Lines.{hex_digit, hexadecimal, newline, numbers, heading, entry_line, end_line, laid_in, heading_room, entry_room, end_room, Laid}
@@ -35,16 +38,24 @@ module _ {b c : List ℕ} {at k : ℕ} {m : List ℕ} (l : Laid b at m c k) (fit
 
 -- a text laid at the front of the end from t on, lent and come back
 pub end-laid : (b : List ℕ) (t : ℕ) (m e : List ℕ) (n : ℕ) → t + length m ≤ length b
-    → ◌≡◌ {A = List ℕ × ℕ} (e, n) (put (take (length b - t) (drop t b)) 0 m, put_length (take (length b - t) (drop t b)) 0 m)
+    → ◌≡◌ {A = List ℕ × Option ℕ} (e, Some n) (put (take (length b - t) (drop t b)) 0 m, fitted (take (length b - t) (drop t b)) 0 m)
     → Laid b t m (take t b ++ (e ++ drop (length b - t) (drop t b))) (t + n)
 end-laid b t m e n h q =
     let w : t ≤ length b = omega arith in
     let s = rw (end_whole b t w) at q in
-    let k : n ≡ length m = ap (λ (p : List ℕ × ℕ). p.1) s ∙ end-put_length b t w m ∙ put_length-in b t m h in
+    let k : n ≡ length m = some-some (ap (λ (p : List ℕ × Option ℕ). p.1) s ∙ end-fitted b t w m ∙ fitted-in b t m h) in
     record {
-      bytes = end_back b t w e ∙ ap (λ (p : List ℕ × ℕ). take t b ++ p.0) s ∙ end-put b t w m ∙ put_in b t m h;
+      bytes = end_back b t w e ∙ ap (λ (p : List ℕ × Option ℕ). take t b ++ p.0) s ∙ end-put b t w m ∙ put_in b t m h;
       ends = ap (λ (j : ℕ). t + j) k;
     }
+
+-- what fits is there
+pub end-some : (b : List ℕ) (t : ℕ) (m : List ℕ) (o : Option ℕ) (e : List ℕ) → t + length m ≤ length b
+    → ◌≡◌ {A = List ℕ × Option ℕ} (e, o) (put (take (length b - t) (drop t b)) 0 m, fitted (take (length b - t) (drop t b)) 0 m)
+    → o ≡ Some (length m)
+end-some b t m o e h q =
+    let w : t ≤ length b = omega arith in
+    ap (λ (p : List ℕ × Option ℕ). p.1) (rw (end_whole b t w) at q) ∙ end-fitted b t w m ∙ fitted-in b t m h
 
 -- a line, where there is room for it and where not
 pub laid_in_lem : (room : ℕ) {b : List ℕ} {at : ℕ} {m c : List ℕ} {k : ℕ} → at + room ≤ length b → Laid b at m c k

@@ -45,8 +45,7 @@ fn put_decimal(out: &mut [u8], at: usize, n: u32) -> usize
     requires { at + length (decimal n) ≤ length out.old }
     ensures { Laid out.old at (decimal n) out.new result }
 {
-    let count = format_u32(n, &mut out[at..]);
-    at + count
+    at + format_u32(n, &mut out[at..]).unwrap()
 }
 
 fn hex_digit(d: u8) -> u8
@@ -70,10 +69,8 @@ fn put_hex(out: &mut [u8], at: usize, bytes: &[u8]) -> usize
     ensures { Laid out.old at (hexadecimal bytes.now) out.new result }
 {
     let mut end = at;
-    let mut i = 0;
-    while i < bytes.len() {
-        end = put_pair(out, end, bytes[i]);
-        i += 1;
+    for &b in bytes {
+        end = put_pair(out, end, b);
     }
     end
 }
@@ -111,11 +108,7 @@ fn put_numbers(out: &mut [u8], at: usize, mode: u32, size: u32, mtime: u32) -> u
 pub fn put_heading(out: &mut [u8], at: usize) -> usize
     ensures { (out.new, result) ≡ laid_in heading_room out.old at heading }
 {
-    if out.len() < at {
-        return at;
-    }
-    let free = out.len() - at;
-    if free < 21 {
+    if out.len().saturating_sub(at) < 21 {
         return at;
     }
     put_text(out, at, b"mode,size,mtime,name\n")
@@ -124,19 +117,11 @@ pub fn put_heading(out: &mut [u8], at: usize) -> usize
 pub fn put_entry(out: &mut [u8], at: usize, stat: StatV1, name: &[u8]) -> usize
     ensures { (out.new, result) ≡ laid_in (entry_room name.now) out.old at (entry_line (told_stat stat) name.now) }
 {
-    if out.len() < at {
+    let free = out.len().saturating_sub(at);
+    if free < 35 || (free - 35) / 2 < name.len() {
         return at;
     }
-    let free = out.len() - at;
-    if free < 35 {
-        return at;
-    }
-    let half = (free - 35) / 2;
-    if half < name.len() {
-        return at;
-    }
-    let mode = stat.mode;
-    let next = put_numbers(out, at, mode.0, stat.size, stat.mtime);
+    let next = put_numbers(out, at, stat.mode.0, stat.size, stat.mtime);
     put_name(out, next, name)
 }
 
@@ -144,11 +129,7 @@ pub fn put_entry(out: &mut [u8], at: usize, stat: StatV1, name: &[u8]) -> usize
 pub fn put_end(out: &mut [u8], at: usize, number: u8) -> usize
     ensures { (out.new, result) ≡ laid_in end_room out.old at (end_line number) }
 {
-    if out.len() < at {
-        return at;
-    }
-    let free = out.len() - at;
-    if free < 15 {
+    if out.len().saturating_sub(at) < 15 {
         return at;
     }
     let next = put_text(out, at, b"end,");

@@ -1,11 +1,10 @@
--- Which of the panel's replies a `Given` is, with what is lent beside it. Assumes nothing.
-use Rattle.std.specs.Prelude.{ℕ, List}
-use Rattle.std.proofs.Math.Option.{Option, none, some}
+-- Which of the panel's replies the one of a kind is, with what is lent beside it. Assumes nothing.
+use Rattle.std.specs.Prelude.{ℕ, List, Option, Some, None}
+use Rattle.std.proofs.Math.Option as M
 use Rattle.panel_reply.specs.Replies as P
 use Rattle.panel_writer.specs.Meaning.{meant}
-use Rattle.panel_crossing.specs.declared.Given.{Given}
-use Rattle.panel_crossing.specs.declared.Given.TheVariants as G
+use Rattle.panel_writer.specs.declared.Reply.{Reply}
 
-abbrev pub given : Given → List ℕ → Option P.Reply
-given (G.Reply q) lent = some (meant q lent)
-given G.Nothing lent = none
+abbrev pub given : Option Reply → List ℕ → M.Option P.Reply
+given (Some q) lent = M.some (meant q lent)
+given None lent = M.none

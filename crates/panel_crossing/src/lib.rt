@@ -17,14 +17,13 @@ ghost use Rattle.panel_side.specs.Crossing.{stat_room, stat2_room, stat_in, stat
 
 use boundary::REPLY;
 use format_flags::FileMode;
-use format_number::{i64_at, put_u64, u64_at};
+use format_number::{i64_at, put_u64, put_u64s, u64_at};
 use format_record::{HEADER_SIZE, StatV1, StatV2};
-use id_table::{Lent, table_in};
+use id_table::table_in;
 use ids::Ids;
 use panel_writer::{Reply, speak};
-use record_store::put_four;
 use request::Request;
-use request_reader::{Read, read_request};
+use request_reader::{Unread, read_request};
 
 // The answers: a slice too short, a kind that is none, numbers that are not all there or too large; bytes that are no request; a reply that is
 // not taken.
@@ -34,7 +33,7 @@ const BAD_REQUEST: u32 = 18;
 
 const LONG_REPLY: u32 = 20;
 
-// A reply by its kind: 0 to 6 are those of a told reply.
+// A reply by its kind, the number that crosses from C: 0 to 6 are those of a told reply.
 const OKAY: u32 = 0;
 
 const TRANSFER_END: u32 = 1;
@@ -80,58 +79,42 @@ fn lent_len(bytes: &[u8], n: usize) -> usize
     n
 }
 
-// Six numbers at the front; nothing where they do not fit.
-fn put_six(out: &mut [u8], a: u64, b: u64, c: u64, d: u64, e: u64, f: u64)
-    ensures { out.new ≡ put out.old 0 (words (a ∷ b ∷ c ∷ d ∷ e ∷ f ∷ [])) }
-{
-    if out.len() < 48 {
-        return;
-    }
-    put_four(out, 0, a, b, c, d);
-    put_u64(out, 32, e);
-    put_u64(out, 40, f);
-}
-
 // A request by the number of its call, with its path or data as the part of the bytes behind the header.
 fn put_request(out: &mut [u8], bytes: &[u8], request: Request, lent: usize, size: usize)
     ensures { out.new ≡ put out.old 0 (words (request_words (Heard.meant request (take lent (drop header_size bytes.now))) size)) }
 {
     let n = lent_len(bytes, lent) as u64;
     let all = size as u64;
-    match request {
-        Request::Stat => put_six(out, 1, START, n, 0, 0, all),
-        Request::Sta2 => put_six(out, 2, START, n, 0, 0, all),
-        Request::List => put_six(out, 3, START, n, 0, 0, all),
-        Request::Lis2 => put_six(out, 4, START, n, 0, 0, all),
-        Request::Recv => put_six(out, 5, START, n, 0, 0, all),
-        Request::Rcv2(flags) => put_six(out, 6, START, n, 0, flags.0 as u64, all),
-        Request::Send(mode) => put_six(out, 7, START, n, mode.0 as u64, 0, all),
-        Request::Snd2(mode, flags) => put_six(out, 8, START, n, mode.0 as u64, flags.0 as u64, all),
-        Request::Data => put_six(out, 9, START, n, 0, 0, all),
-        Request::Done(mtime) => put_six(out, 10, START, 0, mtime as u64, 0, all),
-        Request::Quit => put_six(out, 11, START, 0, 0, 0, all),
-    }
+    let numbers = match request {
+        Request::Stat => [1, START, n, 0, 0, all],
+        Request::Sta2 => [2, START, n, 0, 0, all],
+        Request::List => [3, START, n, 0, 0, all],
+        Request::Lis2 => [4, START, n, 0, 0, all],
+        Request::Recv => [5, START, n, 0, 0, all],
+        Request::Rcv2(flags) => [6, START, n, 0, flags.0 as u64, all],
+        Request::Send(mode) => [7, START, n, mode.0 as u64, 0, all],
+        Request::Snd2(mode, flags) => [8, START, n, mode.0 as u64, flags.0 as u64, all],
+        Request::Data => [9, START, n, 0, 0, all],
+        Request::Done(mtime) => [10, START, 0, mtime as u64, 0, all],
+        Request::Quit => [11, START, 0, 0, 0, all],
+    };
+    put_u64s(out, 0, numbers);
 }
 
 // The request at the front of the bytes, by the ids: 0, or 18 and out is left alone.
 fn hear_request(ids: Ids, bytes: &[u8], out: &mut [u8]) -> u32
     ensures { sliced out.new result ≡ hearing out.old (read_request (dialect_of ids) bytes.now) }
 {
-    let read = read_request(ids, bytes);
-    match read {
-        Read::More => {
-            put_six(out, 0, 0, 0, 0, 0, 0);
+    match read_request(ids, bytes) {
+        Ok(heard) => {
+            put_request(out, bytes, heard.request, heard.lent, heard.size);
             0
         }
-        Read::Refused => BAD_REQUEST,
-        Read::Request {
-            request,
-            lent,
-            size,
-        } => {
-            put_request(out, bytes, request, lent, size);
+        Err(Unread::More) => {
+            put_u64s(out, 0, [0; 6]);
             0
         }
+        Err(Unread::Refused) => BAD_REQUEST,
     }
 }
 
@@ -142,14 +125,13 @@ pub fn hear(settings: &[u8], bytes: &[u8], out: &mut [u8]) -> u32
     if out.len() < REPLY {
         return MISPLACED;
     }
-    let table = table_in(settings);
-    match table {
-        Lent::Refused(n) => n as u32,
-        Lent::Ids(ids) => hear_request(ids, bytes, out),
+    match table_in(settings) {
+        Err(why) => why.number(),
+        Ok(ids) => hear_request(ids, bytes, out),
     }
 }
 
-// Whether the number i has 32 bits.
+// Whether the number i has 32 bits. (A slice and i, since `at` of boundary/specs/Heard reads a number of a slice.)
 fn is_narrow(numbers: &[u8], i: usize) -> bool
     requires { 8 * i + 8 ≤ length numbers.now }
     ensures { result ≡ fits32 (at numbers.now i) }
@@ -157,35 +139,26 @@ fn is_narrow(numbers: &[u8], i: usize) -> bool
     u64_at(numbers, 8 * i) < NARROW
 }
 
-// Both tests, none of them skipped.
-fn both(a: bool, b: bool) -> bool
-    ensures { result ≡ (a && b) }
-{
-    if a { b } else { false }
-}
-
 // Whether the three numbers of a stat are there and fit their fields.
 fn has_stat(numbers: &[u8]) -> bool
     ensures { result ≡ (leb stat_room (length numbers.now) && stat_narrow (stat_in numbers.now)) }
 {
-    if numbers.len() < STAT_ROOM {
-        return false;
-    }
-    let two = both(is_narrow(numbers, 0), is_narrow(numbers, 1));
-    both(two, is_narrow(numbers, 2))
+    STAT_ROOM <= numbers.len()
+        && is_narrow(numbers, 0)
+        && is_narrow(numbers, 1)
+        && is_narrow(numbers, 2)
 }
 
 // The same of the eleven of a stat of v2, five of them of 32 bits.
 fn has_stat_v2(numbers: &[u8]) -> bool
     ensures { result ≡ (leb stat2_room (length numbers.now) && stat2_narrow (stat2_in numbers.now)) }
 {
-    if numbers.len() < STAT_V2_ROOM {
-        return false;
-    }
-    let two = both(is_narrow(numbers, 0), is_narrow(numbers, 3));
-    let three = both(two, is_narrow(numbers, 4));
-    let four = both(three, is_narrow(numbers, 5));
-    both(four, is_narrow(numbers, 6))
+    STAT_V2_ROOM <= numbers.len()
+        && is_narrow(numbers, 0)
+        && is_narrow(numbers, 3)
+        && is_narrow(numbers, 4)
+        && is_narrow(numbers, 5)
+        && is_narrow(numbers, 6)
 }
 
 // The number i: of 32 bits, of 64, and as a time.
@@ -242,47 +215,21 @@ fn stat_v2_in(numbers: &[u8]) -> StatV2
 }
 
 // The reply of a kind and its numbers, if there is one.
-#[derive(Clone, Copy)]
-enum Given {
-    Reply(Reply),
-    Nothing,
-}
-
-fn reply_numbered(kind: u32, numbers: &[u8]) -> Given
+fn reply_numbered(kind: u32, numbers: &[u8]) -> Option<Reply>
     ensures { (lent : List ℕ) → given result lent ≡ reply_numbered kind numbers.now lent }
 {
     match kind {
-        OKAY => Given::Reply(Reply::Okay),
-        TRANSFER_END => Given::Reply(Reply::TransferEnd),
-        STAT => {
-            if !has_stat(numbers) {
-                return Given::Nothing;
-            }
-            Given::Reply(Reply::Stat(stat_in(numbers)))
-        }
-        STAT_V2 => {
-            if !has_stat_v2(numbers) {
-                return Given::Nothing;
-            }
-            Given::Reply(Reply::StatV2(stat_v2_in(numbers)))
-        }
-        ENTRY => {
-            if !has_stat(numbers) {
-                return Given::Nothing;
-            }
-            Given::Reply(Reply::Entry(stat_in(numbers)))
-        }
-        ENTRY_V2 => {
-            if !has_stat_v2(numbers) {
-                return Given::Nothing;
-            }
-            Given::Reply(Reply::EntryV2(stat_v2_in(numbers)))
-        }
-        CHUNK => Given::Reply(Reply::Chunk),
-        FAIL => Given::Reply(Reply::Fail),
-        LISTING_END => Given::Reply(Reply::ListingEnd),
-        LISTING_END_V2 => Given::Reply(Reply::ListingEndV2),
-        _ => Given::Nothing,
+        OKAY => Some(Reply::Okay),
+        TRANSFER_END => Some(Reply::TransferEnd),
+        STAT if has_stat(numbers) => Some(Reply::Stat(stat_in(numbers))),
+        STAT_V2 if has_stat_v2(numbers) => Some(Reply::StatV2(stat_v2_in(numbers))),
+        ENTRY if has_stat(numbers) => Some(Reply::Entry(stat_in(numbers))),
+        ENTRY_V2 if has_stat_v2(numbers) => Some(Reply::EntryV2(stat_v2_in(numbers))),
+        CHUNK => Some(Reply::Chunk),
+        FAIL => Some(Reply::Fail),
+        LISTING_END => Some(Reply::ListingEnd),
+        LISTING_END_V2 => Some(Reply::ListingEndV2),
+        _ => None,
     }
 }
 
@@ -290,10 +237,9 @@ fn reply_numbered(kind: u32, numbers: &[u8]) -> Given
 fn say_reply(ids: Ids, reply: Reply, lent: &[u8], out: &mut [u8], told: &mut [u8]) -> u32
     ensures { spoke out.new told.new result ≡ saying (dialect_of ids) out.old told.old (meant reply lent.now) }
 {
-    let n = speak(ids, reply, lent, out);
-    if n == 0 {
+    let Some(n) = speak(ids, reply, lent, out) else {
         return LONG_REPLY;
-    }
+    };
     put_u64(told, 0, n as u64);
     0
 }
@@ -309,10 +255,9 @@ fn say_numbered(
 ) -> u32
     ensures { spoke out.new told.new result ≡ if_given out.old told.old (saying (dialect_of ids) out.old told.old) (reply_numbered kind numbers.now lent.now) }
 {
-    let given = reply_numbered(kind, numbers);
-    match given {
-        Given::Reply(reply) => say_reply(ids, reply, lent, out, told),
-        Given::Nothing => MISPLACED,
+    match reply_numbered(kind, numbers) {
+        Some(reply) => say_reply(ids, reply, lent, out, told),
+        None => MISPLACED,
     }
 }
 
@@ -330,9 +275,8 @@ pub fn say(
     if told.len() < REPLY {
         return MISPLACED;
     }
-    let table = table_in(settings);
-    match table {
-        Lent::Refused(n) => n as u32,
-        Lent::Ids(ids) => say_numbered(ids, kind, numbers, lent, out, told),
+    match table_in(settings) {
+        Err(why) => why.number(),
+        Ok(ids) => say_numbered(ids, kind, numbers, lent, out, told),
     }
 }

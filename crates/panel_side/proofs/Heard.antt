@@ -20,8 +20,8 @@ use Rattle.protocol.proofs.Ids.{legal-sound}
 use Rattle.protocol.proofs.Requests.{read_back_lem}
 use Rattle.ids.specs.Ids.{dialect_of}
 use Rattle.id_table.specs.Settings.{lent_in}
-use Rattle.id_table.specs.declared.Lent.{Lent}
-use Rattle.id_table.specs.declared.Lent.TheVariants as L
+use Rattle.id_table.specs.Lent.{Lent}
+use Rattle.id_table.specs.Lent as L
 use Rattle.id_table.proofs.Laws.{id-tables}
 use Rattle.record.specs.Record.{words}
 use Rattle.session.specs.Host.{lent_of}

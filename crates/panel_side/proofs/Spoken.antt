@@ -20,8 +20,8 @@ use Rattle.protocol.specs.Calls.{v1, v2}
 use Rattle.protocol.specs.Ids.{Table, Legal, Dialect, under}
 use Rattle.protocol.specs.Records.{Stat, Stat2}
 use Rattle.id_table.specs.Settings.{lent_in}
-use Rattle.id_table.specs.declared.Lent.{Lent}
-use Rattle.id_table.specs.declared.Lent.TheVariants as L
+use Rattle.id_table.specs.Lent.{Lent}
+use Rattle.id_table.specs.Lent as L
 use Rattle.id_table.proofs.Laws.{id-tables}
 use Rattle.record.specs.Narrow.{U64}
 use Rattle.record.specs.Record.{words}

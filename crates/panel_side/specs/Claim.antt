@@ -13,7 +13,7 @@ use Rattle.protocol.specs.Reader.{Report, plain_writes}
 use Rattle.protocol.specs.Records.{Stat, Stat2, header_size}
 use Rattle.protocol.specs.Requests.{read_request}
 use Rattle.id_table.specs.Settings.{lent_in}
-use Rattle.id_table.specs.declared.Lent.TheVariants as L
+use Rattle.id_table.specs.Lent as L
 use Rattle.record.specs.Narrow.{U32, U64, I64}
 use Rattle.record.specs.Record.{words}
 use Rattle.session.specs.Demand3.{Opening, System, Bound, Within, Side, AllWide, CodedReport, reader, log_from, answers_of}

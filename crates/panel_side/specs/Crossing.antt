@@ -10,8 +10,8 @@ use Rattle.protocol.specs.Records.{Stat, Stat2, header_size}
 use Rattle.protocol.specs.Requests.{Read, more, refused, request, read_request}
 use Rattle.ids.specs.Ids.{dialect_of}
 use Rattle.id_table.specs.Settings.{lent_in}
-use Rattle.id_table.specs.declared.Lent.{Lent}
-use Rattle.id_table.specs.declared.Lent.TheVariants as L
+use Rattle.id_table.specs.Lent.{Lent}
+use Rattle.id_table.specs.Lent as L
 use Rattle.record.specs.Fields.{unsigned}
 use Rattle.record.specs.Record.{words}
 use Rattle.session.specs.Host.{Spare, lent_of}

@@ -13,7 +13,7 @@ use Rattle.protocol.specs.Hours.{Hours}
 use Rattle.protocol.specs.Refusal.{Setting, refusal_at}
 use Rattle.ids.specs.Ids.{ids_of}
 use Rattle.id_table.specs.Settings.{lent_in}
-use Rattle.id_table.specs.declared.Lent.TheVariants as L
+use Rattle.id_table.specs.Lent as L
 use Rattle.boundary.specs.Heard.{at}
 use Rattle.panel_reply.specs.Replies.{Reply, stat, stat2, entry, entry2, listing_end, chunk, transfer_end, okay, fail}
 use Rattle.panel_side.specs.Crossing.{Spoken, reply_numbered, cross_speak}

@@ -1,24 +1,17 @@
--- Laws of `words`: how long they are, the i-th read back and replaced, puts one behind the other, and bytes as words. Assumes nothing.
-use mathlib.Core.List.{List, [], ◌∷◌, ◌++◌, append_assoc, append-nil}
+-- Laws of `words` (the first in format_number): the i-th read back and replaced, puts one behind the other, and bytes as words. Assumes nothing.
+use mathlib.Core.List.{List, [], ◌∷◌, ◌++◌, append-nil}
 use mathlib.Core.Path.{◌≡◌, refl, sym, ap, ◌∙◌}
 use Prim.Native.Nat.{ℕ, zero, suc, ◌+◌, ◌*◌, ◌≤◌, ◌<◌}
 use native.Mathlib.Omega.{arith}
-use lib.ListN.{length, take, drop, get_or, set, length-append, length-drop, take-append-drop, drop_of_length-le}
+use lib.ListN.{length, take, drop, get_or, set, length-drop, take-append-drop, drop_of_length-le}
 use lib.Seq.{length-take-le, take-append_seam, take-append-add, drop-append-add, drop-drop, drop-nil}
 use Rattle.protocol.specs.Bytes.{Bytes, le, bytes_of, number_at, over, put, whole}
 use Rattle.protocol.specs.Records.{u64_at}
-use Rattle.protocol.proofs.Bytes.{length-bytes_of, le-bytes_of, bytes_of-le, bytes_drop, put_in, put-put, whole_in}
+use Rattle.protocol.proofs.Bytes.{le-bytes_of, bytes_of-le, bytes_drop, put_in, put-put, whole_in}
 use Rattle.protocol.proofs.Words.{bytes_take}
+pub use Rattle.format_number.proofs.Words.{length-words, words_append}
 use Rattle.record.specs.Narrow.{U64}
 use Rattle.record.specs.Record.{words, word_of}
-
-pub length-words : (ns : List ℕ) → length (words ns) ≡ 8 * length ns
-length-words [] = refl
-length-words (n ∷ ns) = length-append (bytes_of 8 n) (words ns) ∙ omega (arith, length-bytes_of 8 n, length-words ns)
-
-pub words_append : (ms ns : List ℕ) → words (ms ++ ns) ≡ words ms ++ words ns
-words_append [] ns = refl
-words_append (m ∷ ms) ns = ap (λ (l : List ℕ). bytes_of 8 m ++ l) (words_append ms ns) ∙ sym (append_assoc (bytes_of 8 m) (words ms) (words ns))
 
 -- numbers that are put behind numbers are put with them
 pub put_next : {l l' : List ℕ} (b : List ℕ) (at next : ℕ) (ms ns : List ℕ) → l ≡ put b at (words ms) → l' ≡ put l next (words ns)

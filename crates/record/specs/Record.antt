@@ -1,19 +1,15 @@
 -- The record: a session's 32 numbers in a lent slice of 256 bytes, eight for each, the lowest first.
 -- Assumes nothing.
-use Rattle.std.specs.Prelude.{ℕ, ◌*◌, ◌&&◌, List, [], ◌∷◌, ◌++◌, eqb, length}
+use Rattle.std.specs.Prelude.{ℕ, ◌*◌, ◌&&◌, List, eqb, length}
 use Rattle.std.proofs.Math.Option.{Option, none, some}
-use Rattle.protocol.specs.Bytes.{pick, bytes_of}
+use Rattle.protocol.specs.Bytes.{pick}
 use Rattle.protocol.specs.Records.{u64_at}
+pub use Rattle.format_number.specs.Words.{words}
 use Rattle.session.specs.declared.Session.{Session}
 use Rattle.record.specs.Fields.{fields, known, session_of}
 
 abbrev pub size : ℕ
 size = 256
-
--- numbers in eight bytes each
-abbrev pub words : List ℕ → List ℕ
-words [] = []
-words (n ∷ ns) = bytes_of 8 n ++ words ns
 
 unfoldable pub stored : Session → List ℕ
 stored s = words (fields s)

@@ -3,7 +3,7 @@
 
 pub const SIZE: usize = 256;
 
-// ---- the numbers, by their places
+// ---- the numbers, by their places: numbers, and no enum, since the record is lent as bytes; `specs/Fields` has the same
 
 pub const CAPACITY: u8 = 0;
 
@@ -40,6 +40,7 @@ pub const KEPT: u8 = 13;
 pub const IDS: u8 = 24;
 
 // ---- the states: nothing is pending, a request is out, the channel closes, a header or a part is awaited
+// A state is a number of the lent bytes: `request_state`, `want_state` and `phase_state` of `specs/Fields` have the same.
 
 pub const IDLE: usize = 0;
 

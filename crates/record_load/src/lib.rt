@@ -4,7 +4,7 @@
 ghost use Rattle.std.specs.Prelude.{◌≡◌, ◌%◌, ◌<◌, length, false, eqb};
 ghost use Rattle.protocol.specs.Bytes.{pick, signed};
 ghost use Rattle.session.specs.Core.{features_from};
-ghost use Rattle.record.specs.Fields.{is_one, bits_of, low, dent_from, dent2_from, ids_from, pending_of, session_of, step_in};
+ghost use Rattle.record.specs.Fields.{is_one, bits_of, low, dent_from, dent2_from, ids_from, known, pending_of, session_of, step_in};
 ghost use Rattle.record.specs.Record.{size, word_of, loaded};
 ghost use Rattle.record_load.specs.Found.{found};
 ghost use Rattle.session.specs.declared.Pending.TheVariants.{Reading, Writing};
@@ -22,40 +22,33 @@ use recv_buf::RecvBuf;
 use request::Request;
 use session::{Pending, Phase, Session, Version, Want};
 
-#[derive(Clone, Copy)]
-pub enum Loaded {
-    Session(Session),
-    // it is not 256 bytes long, or its numbers are no session's
-    Unknown,
-}
-
 // The i-th number of a record.
-fn word(rec: &[u8], i: u8) -> u64
-    requires { (length rec.now ≡ size) × (i < 32) }
+fn word(rec: &[u8; SIZE], i: u8) -> u64
+    requires { i < 32 }
     ensures { result ≡ word_of rec.now i }
 {
     u64_at(rec, 8 * (i as usize))
 }
 
 // ... as a place or a length.
-fn place(rec: &[u8], i: u8) -> usize
-    requires { (length rec.now ≡ size) × (i < 32) }
+fn place(rec: &[u8; SIZE], i: u8) -> usize
+    requires { i < 32 }
     ensures { result ≡ word_of rec.now i }
 {
     word(rec, i) as usize
 }
 
-// ... its low 32 bits.
-fn half(rec: &[u8], i: u8) -> u32
-    requires { (length rec.now ≡ size) × (i < 32) }
+// ... its low 32 bits, by a remainder: an `as` loses no bits here.
+fn half(rec: &[u8; SIZE], i: u8) -> u32
+    requires { i < 32 }
     ensures { result ≡ low (word_of rec.now i) }
 {
     (word(rec, i) % 0x1_0000_0000) as u32
 }
 
 // ... as a signed number.
-fn time(rec: &[u8], i: u8) -> i64
-    requires { (length rec.now ≡ size) × (i < 32) }
+fn time(rec: &[u8; SIZE], i: u8) -> i64
+    requires { i < 32 }
     ensures { result ≡ signed (word_of rec.now i) }
 {
     i64_at(rec, 8 * (i as usize))
@@ -71,25 +64,18 @@ fn odd(n: u64) -> bool
 fn features(n: u64) -> Features
     ensures { result ≡ features_from (bits_of 7 n) }
 {
-    let n1 = n / 2;
-    let n2 = n1 / 2;
-    let n3 = n2 / 2;
-    let n4 = n3 / 2;
-    let n5 = n4 / 2;
-    let n6 = n5 / 2;
     Features {
         stat_v2: odd(n),
-        ls_v2: odd(n1),
-        sendrecv_v2: odd(n2),
-        brotli: odd(n3),
-        lz4: odd(n4),
-        zstd: odd(n5),
-        dry_run_send: odd(n6),
+        ls_v2: odd(n >> 1),
+        sendrecv_v2: odd(n >> 2),
+        brotli: odd(n >> 3),
+        lz4: odd(n >> 4),
+        zstd: odd(n >> 5),
+        dry_run_send: odd(n >> 6),
     }
 }
 
-fn dent_v1(rec: &[u8]) -> DentV1
-    requires { length rec.now ≡ size }
+fn dent_v1(rec: &[u8; SIZE]) -> DentV1
     ensures { result ≡ dent_from (word_of rec.now) }
 {
     let stat = StatV1 {
@@ -103,8 +89,7 @@ fn dent_v1(rec: &[u8]) -> DentV1
     }
 }
 
-fn dent_v2(rec: &[u8]) -> DentV2
-    requires { length rec.now ≡ size }
+fn dent_v2(rec: &[u8; SIZE]) -> DentV2
     ensures { result ≡ dent2_from (word_of rec.now) }
 {
     let stat = StatV2 {
@@ -127,8 +112,8 @@ fn dent_v2(rec: &[u8]) -> DentV2
 }
 
 // The request of a step that writes.
-fn request(rec: &[u8], state: usize) -> Request
-    requires { (length rec.now ≡ size) × ((state ≡ word_of rec.now 7) × ((0 < state) × (state < 12))) }
+fn request(rec: &[u8; SIZE], state: usize) -> Request
+    requires { (state ≡ word_of rec.now 7) × ((0 < state) × (state < 12)) }
     ensures { Writing result (word_of rec.now 10) (word_of rec.now 11) ≡ pending_of (word_of rec.now) }
 {
     match state {
@@ -147,8 +132,8 @@ fn request(rec: &[u8], state: usize) -> Request
 }
 
 // The phase of a step that reads.
-fn phase(rec: &[u8], state: usize) -> Phase
-    requires { (length rec.now ≡ size) × ((state ≡ word_of rec.now 7) × ((12 < state) × (state < 31))) }
+fn phase(rec: &[u8; SIZE], state: usize) -> Phase
+    requires { (state ≡ word_of rec.now 7) × ((12 < state) × (state < 31)) }
     ensures { Reading result (word_of rec.now 9) (is_one (word_of rec.now 8)) ≡ pending_of (word_of rec.now) }
 {
     match state {
@@ -176,8 +161,8 @@ fn phase(rec: &[u8], state: usize) -> Phase
     }
 }
 
-fn pending(rec: &[u8]) -> Pending
-    requires { (length rec.now ≡ size) × (word_of rec.now 7 < 31) }
+fn pending(rec: &[u8; SIZE]) -> Pending
+    requires { word_of rec.now 7 < 31 }
     ensures { result ≡ pending_of (word_of rec.now) }
 {
     let state = place(rec, STATE);
@@ -205,8 +190,7 @@ fn pending(rec: &[u8]) -> Pending
     }
 }
 
-fn ids(rec: &[u8]) -> Ids
-    requires { length rec.now ≡ size }
+fn ids(rec: &[u8; SIZE]) -> Ids
     ensures { result ≡ ids_from (word_of rec.now) }
 {
     Ids {
@@ -221,8 +205,8 @@ fn ids(rec: &[u8]) -> Ids
     }
 }
 
-fn session(rec: &[u8]) -> Session
-    requires { (length rec.now ≡ size) × (word_of rec.now 7 < 31) }
+fn session(rec: &[u8; SIZE]) -> Session
+    requires { word_of rec.now 7 < 31 }
     ensures { result ≡ session_of (word_of rec.now) }
 {
     let buf = RecvBuf {
@@ -246,45 +230,33 @@ fn session(rec: &[u8]) -> Session
 pub fn step_in(rec: &[u8]) -> bool
     ensures { result ≡ pick (eqb (length rec.now) size) (step_in (word_of rec.now 0) (pending_of (word_of rec.now))) false }
 {
-    if rec.len() == SIZE {
-        let state = place(rec, STATE);
-        if state == FAIL_REST {
-            return place(rec, KEPT) <= place(rec, CAPACITY);
-        }
-        if QUIT_OUT < state {
-            return true;
-        }
-        if state == IDLE {
-            return true;
-        }
-        if state == DATA_OUT {
-            return true;
-        }
-        return place(rec, FROM) == 0;
+    let Some(rec) = rec.as_array() else {
+        return false;
+    };
+    match place(rec, STATE) {
+        FAIL_REST => place(rec, KEPT) <= place(rec, CAPACITY),
+        IDLE | DATA_OUT => true,
+        state => QUIT_OUT < state || place(rec, FROM) == 0,
     }
-    false
 }
 
-pub fn load(rec: &[u8]) -> Loaded
+// Whether its numbers are a session's.
+#[tactic(auto, unfolding(record::specs::Fields::known))]
+fn known(rec: &[u8; SIZE]) -> bool
+    ensures { result ≡ known (word_of rec.now) }
+{
+    word(rec, FEATURES) < 128
+        && word(rec, ENDED) < 2
+        && place(rec, STATE) < STATES
+        && word(rec, FLAG) < 2
+        && step_in(rec)
+}
+
+// None where it is not 256 bytes long, or its numbers are no session's.
+#[tactic(auto, unfolding(record::specs::Record::loaded))]
+pub fn load(rec: &[u8]) -> Option<Session>
     ensures { found result ≡ loaded rec.now }
 {
-    if rec.len() == SIZE {
-        if 128 <= word(rec, FEATURES) {
-            return Loaded::Unknown;
-        }
-        if 2 <= word(rec, ENDED) {
-            return Loaded::Unknown;
-        }
-        if STATES <= place(rec, STATE) {
-            return Loaded::Unknown;
-        }
-        if 2 <= word(rec, FLAG) {
-            return Loaded::Unknown;
-        }
-        if step_in(rec) {
-            return Loaded::Session(session(rec));
-        }
-        return Loaded::Unknown;
-    }
-    Loaded::Unknown
+    let rec: &[u8; SIZE] = rec.as_array()?;
+    if known(rec) { Some(session(rec)) } else { None }
 }

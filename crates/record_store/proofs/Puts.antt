@@ -17,14 +17,6 @@ pub registers-of : {A : Type 0} {x y : A} {l : List ℕ} (f : A → List ℕ) (b
     → l ≡ put b 96 (words (registers (f x)))
 registers-of f b e h = h ∙ ap (λ z. put b 96 (words (registers (f z)))) (sym e)
 
--- twelve numbers, four by four
-pub twelve_put : {l₁ l₂ l₃ : List ℕ} (b ks ms ns : List ℕ) → length b ≡ size → length ks ≡ 4 → length ms ≡ 4 → length ns ≡ 4
-    → l₁ ≡ put b 96 (words ks) → l₂ ≡ put l₁ 128 (words ms) → l₃ ≡ put l₂ 160 (words ns) → l₃ ≡ put b 96 (words (ks ++ ms ++ ns))
-twelve_put b ks ms ns e k m n p q r =
-    put_next b 96 160 (ks ++ ms) ns (put_next b 96 128 ks ms p q (omega arith) (omega arith)) r
-    (omega (arith, length-append ks ms))
-    (omega arith)
-
 -- five numbers, and the registers behind them
 pub step-put : {l₁ l₂ : List ℕ} (b ns r ms : List ℕ) → length b ≡ size → length ns ≡ 5
     → l₁ ≡ put b 56 (words ns) → l₂ ≡ put l₁ 96 (words (registers r)) → ns ++ registers r ≡ ms → l₂ ≡ put b 56 (words ms)

@@ -4,62 +4,34 @@
 ghost use Rattle.std.specs.Prelude.{[], ◌∷◌, ◌≡◌, ◌<◌, eqb, length};
 ghost use Rattle.protocol.specs.Bytes.{pick, put, bytes_of};
 ghost use Rattle.features.specs.Meaning.{listed};
-ghost use Rattle.record.specs.Fields.{bit, bits, unsigned, registers, request_state, request_numbers, want_state, phase_state, phase_numbers, dent_numbers, dent2_numbers, own_numbers, step_numbers, id_numbers};
+ghost use Rattle.record.specs.Fields.{bit, bits, registers, request_state, request_numbers, want_state, phase_state, phase_numbers, dent_numbers, dent2_numbers, own_numbers, step_numbers, id_numbers};
 ghost use Rattle.record.specs.Record.{size, words, stored};
 
 use features::Features;
-use format_number::put_u64;
+use format_number::{put_u64, put_u64s};
 use format_record::{DentV1, DentV2};
 use ids::Ids;
 use record::SIZE;
 use request::Request;
 use session::{Pending, Phase, Session, Version, Want};
 
-// The 64 bits of a signed number.
-pub fn unsigned(z: i64) -> u64
-    ensures { result ≡ unsigned z }
-{
-    if z < 0 {
-        let beyond = (-1 - z) as u64;
-        return 0xffff_ffff_ffff_ffff - beyond;
-    }
-    z as u64
-}
-
-// Four numbers over what stands at off; nothing where they do not fit.
-pub fn put_four(out: &mut [u8], off: usize, a: u64, b: u64, c: u64, d: u64)
-    ensures { out.new ≡ put out.old off (words (a ∷ b ∷ c ∷ d ∷ [])) }
-{
-    if out.len() < 32 {
-        return;
-    }
-    let last = out.len() - 32;
-    if last < off {
-        return;
-    }
-    put_u64(out, off, a);
-    put_u64(out, off + 8, b);
-    put_u64(out, off + 16, c);
-    put_u64(out, off + 24, d);
-}
-
 fn bit(b: bool) -> u64
     ensures { (result ≡ bit b) × (result < 2) }
 {
-    if b { 1 } else { 0 }
+    u64::from(b)
 }
 
 // The features as bits, the first the lowest.
 fn feature_bits(f: Features) -> u64
     ensures { result ≡ bits (listed f) }
 {
-    let n6 = bit(f.dry_run_send);
-    let n5 = bit(f.zstd) + 2 * n6;
-    let n4 = bit(f.lz4) + 2 * n5;
-    let n3 = bit(f.brotli) + 2 * n4;
-    let n2 = bit(f.sendrecv_v2) + 2 * n3;
-    let n1 = bit(f.ls_v2) + 2 * n2;
-    bit(f.stat_v2) + 2 * n1
+    bit(f.stat_v2)
+        + 2 * bit(f.ls_v2)
+        + 4 * bit(f.sendrecv_v2)
+        + 8 * bit(f.brotli)
+        + 16 * bit(f.lz4)
+        + 32 * bit(f.zstd)
+        + 64 * bit(f.dry_run_send)
 }
 
 fn request_state(request: Request) -> u64
@@ -84,14 +56,10 @@ fn want_state(want: Want) -> u64
     ensures { result ≡ want_state want }
 {
     match want {
-        Want::Stat(v) => match v {
-            Version::V1 => 13,
-            Version::V2 => 14,
-        },
-        Want::Entry(v) => match v {
-            Version::V1 => 15,
-            Version::V2 => 16,
-        },
+        Want::Stat(Version::V1) => 13,
+        Want::Stat(Version::V2) => 14,
+        Want::Entry(Version::V1) => 15,
+        Want::Entry(Version::V2) => 16,
         Want::Chunk => 17,
         Want::Okay => 18,
         Want::Nothing => 19,
@@ -103,59 +71,55 @@ fn phase_state(phase: Phase) -> u64
 {
     match phase {
         Phase::Header(want) => want_state(want),
-        Phase::Stat(v) => match v {
-            Version::V1 => 20,
-            Version::V2 => 21,
-        },
-        Phase::Entry(v) => match v {
-            Version::V1 => 22,
-            Version::V2 => 23,
-        },
-        Phase::Last(v) => match v {
-            Version::V1 => 24,
-            Version::V2 => 25,
-        },
+        Phase::Stat(Version::V1) => 20,
+        Phase::Stat(Version::V2) => 21,
+        Phase::Entry(Version::V1) => 22,
+        Phase::Entry(Version::V2) => 23,
+        Phase::Last(Version::V1) => 24,
+        Phase::Last(Version::V2) => 25,
         Phase::NameV1(_) => 26,
         Phase::NameV2(_) => 27,
         Phase::Body(_) => 28,
         Phase::Text(_) => 29,
-        Phase::Rest { left: _, text: _ } => 30,
+        Phase::Rest { .. } => 30,
     }
 }
 
 // Four registers; the others are 0.
 fn put_registers(rec: &mut [u8], a: u64, b: u64, c: u64, d: u64)
-    requires { length rec.old ≡ size }
     ensures { rec.new ≡ put rec.old 96 (words (registers (a ∷ b ∷ c ∷ d ∷ []))) }
 {
-    put_four(rec, 96, a, b, c, d);
-    put_four(rec, 128, 0, 0, 0, 0);
-    put_four(rec, 160, 0, 0, 0, 0);
+    put_u64s(rec, 96, [a, b, c, d, 0, 0, 0, 0, 0, 0, 0, 0]);
 }
 
 fn put_dent_v2(rec: &mut [u8], d: DentV2)
-    requires { length rec.old ≡ size }
     ensures { rec.new ≡ put rec.old 96 (words (registers (dent2_numbers d))) }
 {
     let s = d.stat;
-    let mode = s.mode;
-    let atime = unsigned(s.atime);
-    let mtime = unsigned(s.mtime);
-    let ctime = unsigned(s.ctime);
-    put_four(rec, 96, s.error as u64, s.dev, s.ino, mode.0 as u64);
-    put_four(rec, 128, s.nlink as u64, s.uid as u64, s.gid as u64, s.size);
-    put_four(rec, 160, atime, mtime, ctime, d.namelen as u64);
+    let numbers = [
+        s.error as u64,
+        s.dev,
+        s.ino,
+        s.mode.0 as u64,
+        s.nlink as u64,
+        s.uid as u64,
+        s.gid as u64,
+        s.size,
+        s.atime.cast_unsigned(),
+        s.mtime.cast_unsigned(),
+        s.ctime.cast_unsigned(),
+        d.namelen as u64,
+    ];
+    put_u64s(rec, 96, numbers);
 }
 
 fn put_dent_v1(rec: &mut [u8], d: DentV1)
-    requires { length rec.old ≡ size }
     ensures { rec.new ≡ put rec.old 96 (words (registers (dent_numbers d))) }
 {
     let s = d.stat;
-    let mode = s.mode;
     put_registers(
         rec,
-        mode.0 as u64,
+        s.mode.0 as u64,
         s.size as u64,
         s.mtime as u64,
         d.namelen as u64,
@@ -163,70 +127,53 @@ fn put_dent_v1(rec: &mut [u8], d: DentV1)
 }
 
 fn put_request(rec: &mut [u8], request: Request)
-    requires { length rec.old ≡ size }
     ensures { rec.new ≡ put rec.old 96 (words (registers (request_numbers request))) }
 {
     match request {
-        Request::Stat => put_registers(rec, 0, 0, 0, 0),
-        Request::Sta2 => put_registers(rec, 0, 0, 0, 0),
-        Request::List => put_registers(rec, 0, 0, 0, 0),
-        Request::Lis2 => put_registers(rec, 0, 0, 0, 0),
-        Request::Recv => put_registers(rec, 0, 0, 0, 0),
         Request::Rcv2(f) => put_registers(rec, 0, f.0 as u64, 0, 0),
         Request::Send(m) => put_registers(rec, m.0 as u64, 0, 0, 0),
         Request::Snd2(m, f) => put_registers(rec, m.0 as u64, f.0 as u64, 0, 0),
-        Request::Data => put_registers(rec, 0, 0, 0, 0),
         Request::Done(t) => put_registers(rec, t as u64, 0, 0, 0),
-        Request::Quit => put_registers(rec, 0, 0, 0, 0),
+        _ => put_registers(rec, 0, 0, 0, 0),
     }
 }
 
 fn put_phase(rec: &mut [u8], phase: Phase)
-    requires { length rec.old ≡ size }
     ensures { rec.new ≡ put rec.old 96 (words (registers (phase_numbers phase))) }
 {
     match phase {
-        Phase::Header(_) => put_registers(rec, 0, 0, 0, 0),
-        Phase::Stat(_) => put_registers(rec, 0, 0, 0, 0),
-        Phase::Entry(_) => put_registers(rec, 0, 0, 0, 0),
-        Phase::Last(_) => put_registers(rec, 0, 0, 0, 0),
+        Phase::Header(_) | Phase::Stat(_) | Phase::Entry(_) | Phase::Last(_) => {
+            put_registers(rec, 0, 0, 0, 0)
+        }
         Phase::NameV1(d) => put_dent_v1(rec, d),
         Phase::NameV2(d) => put_dent_v2(rec, d),
-        Phase::Body(n) => put_registers(rec, n as u64, 0, 0, 0),
-        Phase::Text(n) => put_registers(rec, n as u64, 0, 0, 0),
+        Phase::Body(n) | Phase::Text(n) => put_registers(rec, n as u64, 0, 0, 0),
         Phase::Rest { left, text } => put_registers(rec, left as u64, text as u64, 0, 0),
     }
 }
 
 // The session's own numbers.
 fn put_own(rec: &mut [u8], s: Session)
-    requires { length rec.old ≡ size }
     ensures { rec.new ≡ put rec.old 0 (words (own_numbers s)) }
 {
-    let buf = s.buf;
-    let features = s.features;
-    let set = feature_bits(features);
-    let ended = bit(s.ended);
-    put_four(
-        rec,
-        0,
+    let numbers = [
         s.capacity as u64,
         s.message as u64,
-        buf.head as u64,
-        buf.tail as u64,
-    );
-    put_u64(rec, 32, s.lent as u64);
-    put_u64(rec, 40, set);
-    put_u64(rec, 48, ended);
+        s.buf.head as u64,
+        s.buf.tail as u64,
+        s.lent as u64,
+        feature_bits(s.features),
+        bit(s.ended),
+    ];
+    put_u64s(rec, 0, numbers);
 }
 
 // The pending step's state, flag, until, from and piece.
 fn put_state(rec: &mut [u8], state: u64, flag: u64, until: usize, from: usize, piece: usize)
-    requires { length rec.old ≡ size }
     ensures { rec.new ≡ put rec.old 56 (words (state ∷ flag ∷ until ∷ from ∷ piece ∷ [])) }
 {
-    put_u64(rec, 56, state);
-    put_four(rec, 64, flag, until as u64, from as u64, piece as u64);
+    let numbers = [state, flag, until as u64, from as u64, piece as u64];
+    put_u64s(rec, 56, numbers);
 }
 
 fn put_pending(rec: &mut [u8], pending: Pending)
@@ -255,11 +202,12 @@ fn put_pending(rec: &mut [u8], pending: Pending)
 
 // The ids behind them.
 fn put_ids(rec: &mut [u8], t: Ids)
-    requires { length rec.old ≡ size }
     ensures { rec.new ≡ put rec.old 192 (words (id_numbers t)) }
 {
-    put_four(rec, 192, t.stat, t.list, t.send, t.recv);
-    put_four(rec, 224, t.data, t.okay, t.dent, t.quit);
+    let numbers = [
+        t.stat, t.list, t.send, t.recv, t.data, t.okay, t.dent, t.quit,
+    ];
+    put_u64s(rec, 192, numbers);
 }
 
 // The session into a record of 256 bytes; a record of another length is left alone.
@@ -267,11 +215,9 @@ pub fn store(s: Session, rec: &mut [u8])
     ensures { rec.new ≡ pick (eqb (length rec.old) size) (stored s) rec.old }
 {
     if rec.len() == SIZE {
-        let pending = s.pending;
-        let ids = s.ids;
         put_own(rec, s);
-        put_pending(rec, pending);
-        put_ids(rec, ids);
+        put_pending(rec, s.pending);
+        put_ids(rec, s.ids);
     }
 }
 

@@ -4,17 +4,14 @@ use mathlib.Core.List.{List, ◌++◌}
 use mathlib.Core.Path.{◌≡◌, refl, sym, ap, ◌∙◌}
 use Prim.Native.Nat.{ℕ, suc, ◌+◌, ◌-◌, ◌≤◌, ◌<◌}
 use native.Mathlib.Decide.{dec_le}
-use native.Mathlib.Nat.{zero-add, lt_of_not-le}
-use native.Mathlib.Numerals.{add-one}
+use native.Mathlib.Nat.{lt_of_not-le}
 use native.Mathlib.Omega.{arith}
 use borrow.Author.Tests.{le-leb, lt-leb, lt-ltb, le-ltb}
-use lib.ListN.{length, take, drop, get_or, set, length-drop, take-append-drop}
-use lib.Seq.{length-take-le, get_or-append-add, get_or-drop, drop-append-le, take_at, drop_at, take-add, drop-drop, length_front, paste-suc, slice, length-slice}
+use lib.ListN.{length, take, drop, take-append-drop}
+use lib.Seq.{length-take-le, drop-append-le, take_at, drop_at, take-add, drop-drop, length_front, slice, length-slice}
 use Rattle.protocol.specs.Bytes.{over}
 use Rattle.protocol.proofs.Bytes.{over-length, over-before, over-there}
-use Rattle.recv_buf.specs.RecvBuf.{cursor, held_count, held_bytes, taken, filled, moved, compacted, holding}
-use Rattle.recv_buf.specs.declared.Hold.{Hold}
-use Rattle.recv_buf.specs.declared.Hold.TheVariants.{TooLarge, Held, Read}
+use Rattle.recv_buf.specs.RecvBuf.{cursor, held_count, held_bytes, taken, filled, moved, compacted, holding, Hold, too_large, held, read}
 use Rattle.recv_buf.specs.declared.RecvBuf.{RecvBuf}
 
 -- the two cases of `taken` and of `filled`
@@ -41,21 +38,6 @@ slice-part h t b o w =
     let e : t ≡ h + k = omega arith in
     let l : length (take h b) ≡ h = length-take-le h b (omega arith) in
     sym (ap (λ (j : ℕ). slice h j b) e ∙ rw (take-add h k b) (drop_at (take h b) (take k (drop h b)) h l))
-
--- what a turn of the copy towards the front leaves
-module _ (b : List ℕ) (h i : ℕ) (fits : h + i < length b) where
-  -- what is read ahead of the copy is what was there
-  ahead : get_or (take i (drop h b) ++ drop i b) (h + i) 0 ≡ get_or (drop h b) i 0
-  ahead =
-      let l : i ≤ length (drop h b) = omega (arith, length-drop h b) in
-      let e : length (take i (drop h b)) ≡ i = length-take-le i (drop h b) l in
-      let f : h + i ≡ length (take i (drop h b)) + h = omega arith in
-      let g : i + h ≡ h + i = omega arith in
-      ap (λ (k : ℕ). get_or (take i (drop h b) ++ drop i b) k 0) f ∙ get_or-append-add (take i (drop h b)) (drop i b) h 0
-      ∙ get_or-drop i b h 0 ∙ ap (λ (k : ℕ). get_or b k 0) g ∙ sym (get_or-drop h b i 0)
-
-  pub shift : set (take i (drop h b) ++ drop i b) i (get_or (take i (drop h b) ++ drop i b) (h + i) 0) ≡ take (i + 1) (drop h b) ++ drop (i + 1) b
-  shift = rw (ahead, add-one) (simp zero-add at (paste-suc b 0 (drop h b) i 0 (omega arith) (omega (arith, length-drop h b))))
 
 -- a cursor that a session has
 pub record Sound (b : List ℕ) (c : RecvBuf) : Type 0 where
@@ -145,19 +127,19 @@ module _ (b : List ℕ) (c : RecvBuf) (s : Sound b c) where
 
 -- the four cases of `holding`
 module _ (b : List ℕ) (c : RecvBuf) (n : ℕ) where
-  pub holding-large : length b < n → holding b c n ≡ (b, TooLarge)
+  pub holding-large : length b < n → holding b c n ≡ (b, too_large)
   unfolding holding
   holding-large h = simp (lt-ltb _ _ h)
 
-  pub holding-window : n ≤ length b → held_count c < n → c.tail < length b → holding b c n ≡ (b, Read c)
+  pub holding-window : n ≤ length b → held_count c < n → c.tail < length b → holding b c n ≡ (b, read c)
   unfolding holding
   holding-window r h w = simp (le-ltb _ _ r, lt-leb _ _ h, lt-ltb _ _ w)
 
-  pub holding-end : n ≤ length b → held_count c < n → length b ≤ c.tail → holding b c n ≡ ((compacted b c).0, Read (compacted b c).1)
+  pub holding-end : n ≤ length b → held_count c < n → length b ≤ c.tail → holding b c n ≡ ((compacted b c).0, read (compacted b c).1)
   unfolding holding
   holding-end r h w = simp (le-ltb _ _ r, lt-leb _ _ h, le-ltb _ _ w)
 
-  pub holding-held : n ≤ length b → n ≤ held_count c → holding b c n ≡ (b, Held)
+  pub holding-held : n ≤ length b → n ≤ held_count c → holding b c n ≡ (b, held)
   unfolding holding
   holding-held r h = simp (le-ltb _ _ r, le-leb _ _ h)
 
@@ -170,9 +152,9 @@ pub record Needed (b : List ℕ) (c : RecvBuf) (n : ℕ) (e : List ℕ) (r : Rec
   pub window : r.tail < length e
 
 abbrev pub Meant : List ℕ → RecvBuf → ℕ → List ℕ → Hold → Type 0
-Meant b c n e TooLarge = (e ≡ b) × (length b < n)
-Meant b c n e Held = (e ≡ b) × (n ≤ length (held_bytes b c))
-Meant b c n e (Read r) = Needed b c n e r
+Meant b c n e too_large = (e ≡ b) × (length b < n)
+Meant b c n e held = (e ≡ b) × (n ≤ length (held_bytes b c))
+Meant b c n e (read r) = Needed b c n e r
 
 pub holding-meant : (b : List ℕ) (c : RecvBuf) (n : ℕ) → Sound b c → Meant b c n (holding b c n).0 (holding b c n).1
 holding-meant b c n s = large (dec_le n (length b))

@@ -1,11 +1,10 @@
 -- What a receive buffer holds, and what each step leaves of the cursor and the bytes (document 01, recv_buf.rs).
 -- Assumes nothing.
-use Rattle.std.specs.Prelude.{ℕ, ◌+◌, ◌-◌, Bool, ◌&&◌, List, [], ◌++◌, leb, ltb, length, drop}
+use Rattle.std.specs.Prelude.{ℕ, ◌+◌, ◌-◌, Bool, ◌&&◌, List, [], ◌++◌, leb, ltb, length, drop, Option, Some, None, Result, Ok, Err}
 use Rattle.std.proofs.Math.Seq.{slice}
 use Rattle.protocol.specs.Bytes.{pick}
-use Rattle.recv_buf.specs.declared.Hold.{Hold}
-use Rattle.recv_buf.specs.declared.Hold.TheVariants.{TooLarge, Held, Read}
 use Rattle.recv_buf.specs.declared.RecvBuf.{RecvBuf}
+use Rattle.recv_buf.specs.declared.TooLarge.{TooLarge}
 
 abbrev pub cursor : ℕ → ℕ → RecvBuf
 cursor h t = record { head = h; tail = t }
@@ -40,10 +39,21 @@ moved b h t = slice h t b ++ drop (t - h) b
 unfoldable pub compacted : List ℕ → RecvBuf → List ℕ × RecvBuf
 compacted b c = pick (sound b c) (moved b c.head c.tail, cursor 0 (held_count c)) (b, c)
 
+-- what holding a number of bytes takes: they are more than the buffer has room for; they are held; a read into the window of this cursor
+pub data Hold : Type 0 where
+  too_large : Hold
+  held : Hold
+  read : RecvBuf → Hold
+
+abbrev pub hold_of : Result (Option RecvBuf) TooLarge → Hold
+hold_of (Err e) = too_large
+hold_of (Ok None) = held
+hold_of (Ok (Some c)) = read c
+
 -- "To hold n bytes: if n exceeds the capacity, 17; else read until n are held, compacting only when tail meets the end"
 unfoldable pub holding : List ℕ → RecvBuf → ℕ → List ℕ × Hold
 holding b c n =
-    pick (ltb (length b) n) (b, TooLarge)
-    (pick (leb n (held_count c)) (b, Held)
-    (pick (ltb c.tail (length b)) (b, Read c)
-    ((compacted b c).0, Read (compacted b c).1)))
+    pick (ltb (length b) n) (b, too_large)
+    (pick (leb n (held_count c)) (b, held)
+    (pick (ltb c.tail (length b)) (b, read c)
+    ((compacted b c).0, read (compacted b c).1)))

@@ -2,24 +2,17 @@
 #![tactic(auto)]
 
 ghost use Rattle.std.specs.Prelude.{◌≡◌, drop};
-ghost use Rattle.recv_buf.specs.RecvBuf.{empty, held_count, taken, filled, held_bytes, compacted, holding};
+ghost use Rattle.recv_buf.specs.RecvBuf.{empty, held_count, taken, filled, held_bytes, compacted, holding, hold_of};
 
-#[derive(Clone, Copy)]
+#[derive(Clone, Copy, PartialEq, Eq)]
 pub struct RecvBuf {
     pub head: usize,
     pub tail: usize,
 }
 
-// What holding a number of bytes takes.
-#[derive(Clone, Copy)]
-pub enum Hold {
-    // They are more than the buffer has room for.
-    TooLarge,
-    // They are held.
-    Held,
-    // A read into the window of this cursor.
-    Read(RecvBuf),
-}
+// Why a number of bytes cannot be held: they are more than the buffer has room for.
+#[derive(Clone, Copy, PartialEq, Eq, Debug)]
+pub struct TooLarge;
 
 impl RecvBuf {
     pub fn new() -> RecvBuf
@@ -32,26 +25,19 @@ impl RecvBuf {
     pub fn held(self) -> usize
         ensures { result ≡ held_count self }
     {
-        let head = self.head;
-        let tail = self.tail;
-        if tail < head {
-            return 0;
-        }
-        tail - head
+        self.tail.saturating_sub(self.head)
     }
 
     // Takes the first n held bytes.
     pub fn take(self, n: usize) -> RecvBuf
         ensures { result ≡ taken self n }
     {
-        let held = self.held();
-        if held < n {
+        if self.held() < n {
             return self;
         }
-        let head = self.head + n;
         RecvBuf {
-            head,
-            tail: self.tail,
+            head: self.head + n,
+            ..self
         }
     }
 
@@ -59,17 +45,9 @@ impl RecvBuf {
     pub fn fill(self, n: usize, capacity: usize) -> RecvBuf
         ensures { result ≡ filled self n capacity }
     {
-        if capacity < self.tail {
-            return self;
-        }
-        let free = capacity - self.tail;
-        if free < n {
-            return self;
-        }
-        let tail = self.tail + n;
-        RecvBuf {
-            head: self.head,
-            tail,
+        match self.tail.checked_add(n) {
+            Some(tail) if tail <= capacity => RecvBuf { tail, ..self },
+            _ => self,
         }
     }
 
@@ -77,34 +55,21 @@ impl RecvBuf {
     pub fn compact(self, buf: &mut [u8]) -> RecvBuf
         ensures { (buf.new, result) ≡ compacted buf.old self }
     {
-        let head = self.head;
-        let tail = self.tail;
-        if head == 0 {
+        if self.head == 0 || self.tail < self.head || buf.len() < self.tail {
             return self;
         }
-        if tail < head {
-            return self;
+        buf.copy_within(self.head..self.tail, 0);
+        RecvBuf {
+            head: 0,
+            tail: self.held(),
         }
-        if buf.len() < tail {
-            return self;
-        }
-        let n = tail - head;
-        let mut i = 0;
-        while i < n {
-            buf[i] = buf[head + i];
-            i += 1;
-        }
-        RecvBuf { head: 0, tail: n }
     }
 
     // Where the next read goes: what lies behind the held bytes.
     pub fn window(self, buf: &mut [u8]) -> &mut [u8]
         ensures { result.now ≡ drop self.tail buf.old }
     {
-        let at = self.tail;
-        if buf.len() < at {
-            return &mut buf[..0];
-        }
+        let at = self.tail.min(buf.len());
         &mut buf[at..]
     }
 
@@ -112,32 +77,25 @@ impl RecvBuf {
     pub fn peek(self, buf: &[u8]) -> &[u8]
         ensures { result.now ≡ held_bytes buf.now self }
     {
-        let head = self.head;
-        let tail = self.tail;
-        if tail < head {
-            return &buf[..0];
+        if self.tail < self.head || buf.len() < self.tail {
+            return &[];
         }
-        if buf.len() < tail {
-            return &buf[..0];
-        }
-        &buf[head..tail]
+        &buf[self.head..self.tail]
     }
 
-    // What holding n bytes takes. The held bytes move only where tail meets the end.
-    pub fn hold(self, buf: &mut [u8], n: usize) -> Hold
-        ensures { (buf.new, result) ≡ holding buf.old self n }
+    // Holds n bytes: the cursor whose window a read goes to, or none where they are held. The held bytes move only where tail meets the end.
+    pub fn hold(self, buf: &mut [u8], n: usize) -> Result<Option<RecvBuf>, TooLarge>
+        ensures { (buf.new, hold_of result) ≡ holding buf.old self n }
     {
         if buf.len() < n {
-            return Hold::TooLarge;
+            return Err(TooLarge);
         }
-        let tail = self.tail;
-        let held = self.held();
-        if n <= held {
-            return Hold::Held;
+        if n <= self.held() {
+            return Ok(None);
         }
-        if tail < buf.len() {
-            return Hold::Read(self);
+        if self.tail < buf.len() {
+            return Ok(Some(self));
         }
-        Hold::Read(self.compact(buf))
+        Ok(Some(self.compact(buf)))
     }
 }

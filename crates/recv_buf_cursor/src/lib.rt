@@ -6,6 +6,8 @@ ghost use Rattle.recv_buf.specs.RecvBuf.{taken, filled};
 
 use recv_buf::RecvBuf;
 
+// The forms by `&mut` beside those by value: document 01 asks for a two-number struct lent mutably (docs/DECISIONS.md).
+
 // Takes the first n held bytes.
 pub fn take(c: &mut RecvBuf, n: usize)
     ensures { c.new ≡ taken c.old n }

@@ -2,55 +2,21 @@
 // stands at the top of rust/oracle/src/record.rs.
 #![tactic(auto)]
 
-ghost use Rattle.std.specs.Prelude.{◌<◌, ◌≤◌, length};
+ghost use Rattle.std.specs.Prelude.{◌≡◌, ◌+◌, ◌-◌, ◌<◌, ◌≤◌, length};
 
 use format_number::{put_bytes, u32_at};
+use session::Fault;
 
 // ---- the text
 
+// What is no digit counts as 0.
 fn digit(b: u8) -> u8
     ensures { result ≤ 15 }
 {
-    if b < b'0' {
-        return 0;
-    }
-    if b <= b'9' {
-        return b - b'0';
-    }
-    if b < b'A' {
-        return 0;
-    }
-    if b <= b'F' {
-        return b - 55;
-    }
-    0
-}
-
-// What stands at a place of the text: a byte of two digits, or the end of a line.
-#[derive(Clone, Copy)]
-struct Pair {
-    byte: u8,
-    size: usize,
-    count: usize,
-}
-
-fn pair_at(text: &[u8], i: usize) -> Pair
-    requires { i ≤ length text.now }
-    ensures { (1 ≤ result.size) × (result.size ≤ 2) × (result.count ≤ 1) }
-{
-    let first = byte_at(text, i);
-    if first == b'\n' {
-        return Pair {
-            byte: 0,
-            size: 1,
-            count: 0,
-        };
-    }
-    let second = byte_at(text, ahead(text.len(), i, 1));
-    Pair {
-        byte: digit(first) * 16 + digit(second),
-        size: 2,
-        count: 1,
+    match b {
+        b'0'..=b'9' => b - b'0',
+        b'A'..=b'F' => b - b'A' + 10,
+        _ => 0,
     }
 }
 
@@ -59,286 +25,251 @@ pub fn decode(text: &[u8], out: &mut [u8]) -> usize
     ensures { result ≤ length out.new }
 {
     let mut n = 0;
-    let mut i = 0;
-    while i < text.len() {
+    let mut left = text;
+    // no `for`: a byte is two digits, an end of line one
+    while let [first, rest @ ..] = left {
+        left = rest;
+        if *first == b'\n' {
+            continue;
+        }
         if out.len() <= n {
             return n;
         }
-        let pair = pair_at(text, i);
-        out[n] = pair.byte;
-        n += pair.count;
-        i += pair.size;
+        let mut second = 0;
+        if let [next, behind @ ..] = rest {
+            second = *next;
+            left = behind;
+        }
+        out[n] = 16 * digit(*first) + digit(second);
+        n += 1;
     }
     n
 }
 
 // ---- the fields of a record
 
-fn byte_at(s: &[u8], at: usize) -> u8 {
-    if at < s.len() {
-        return s[at];
-    }
-    0
-}
-
-// n behind at, but not past the limit.
-fn ahead(limit: usize, at: usize, n: usize) -> usize
-    requires { at ≤ limit }
-    ensures { (at ≤ result) × (result ≤ limit) }
-{
-    let rest = limit - at;
-    if rest < n {
-        return limit;
-    }
-    at + n
-}
-
-fn fill(out: &mut [u8], from: usize, to: usize, b: u8)
-    requires { to ≤ length out.old }
-{
-    let mut i = from;
-    while i < to {
-        out[i] = b;
-        i += 1;
-    }
-}
-
-// Where a field ends, and how many bytes it gave.
+// The records that are still to be read. Behind the last there is nothing, and a number there is 0.
 #[derive(Clone, Copy)]
-struct Taken {
-    at: usize,
-    len: usize,
+struct Rest<'a> {
+    bytes: &'a [u8],
 }
 
-// A part of some packed bytes, put behind the first len of out: a byte repeated, or the bytes.
-fn unpack_part(s: &[u8], at: usize, out: &mut [u8], len: usize) -> Taken
-    requires { (at ≤ length s.now) × (len ≤ length out.old) }
-    ensures { (at ≤ result.at) × (result.at ≤ length s.now) × (result.len ≤ length out.new) }
-{
-    let word = u32_at(s, at);
-    let from = ahead(s.len(), at, 4);
-    if 0x8000_0000 <= word {
-        let end = ahead(out.len(), len, (word - 0x8000_0000) as usize);
-        fill(out, len, end, byte_at(s, from));
-        return Taken {
-            at: ahead(s.len(), from, 1),
-            len: end,
-        };
+impl<'a> Rest<'a> {
+    fn byte(&mut self) -> u8
+        ensures { length (self.new).bytes.now ≡ length (self.old).bytes.now - 1 }
+    {
+        match self.bytes {
+            [first, rest @ ..] => {
+                self.bytes = rest;
+                *first
+            }
+            [] => 0,
+        }
     }
-    let next = ahead(s.len(), from, word as usize);
-    put_bytes(out, len, &s[from..next]);
-    Taken {
-        at: next,
-        len: ahead(out.len(), len, word as usize),
-    }
-}
 
-fn unpack(s: &[u8], at: usize, out: &mut [u8]) -> Taken
-    requires { at ≤ length s.now }
-    ensures { (at ≤ result.at) × (result.at ≤ length s.now) }
-{
-    let parts = byte_at(s, at);
-    let mut end = ahead(s.len(), at, 1);
-    let mut len = 0;
-    let mut i: u8 = 0;
-    while i < parts {
-        let taken = unpack_part(s, end, out, len);
-        end = taken.at;
-        len = taken.len;
-        i += 1;
+    // The next n bytes; all that are left where they are fewer.
+    fn take(&mut self, n: usize) -> &'a [u8]
+        ensures { length (self.new).bytes.now ≤ length (self.old).bytes.now }
+    {
+        let (part, rest) = self.bytes.split_at(n.min(self.bytes.len()));
+        self.bytes = rest;
+        part
     }
-    Taken { at: end, len }
-}
 
-// What was reported: 0 accepted, 1 closed, 2 an error with its code.
-#[derive(Clone, Copy)]
-struct Report {
-    kind: u8,
-    code: u32,
-    at: usize,
-}
-
-fn report_at(s: &[u8], at: usize) -> Report
-    requires { at ≤ length s.now }
-    ensures { (at ≤ result.at) × (result.at ≤ length s.now) }
-{
-    let kind = byte_at(s, at);
-    let next = ahead(s.len(), at, 1);
-    if kind == 2 {
-        return Report {
-            kind,
-            code: u32_at(s, next),
-            at: ahead(s.len(), next, 4),
-        };
+    fn number(&mut self) -> u32
+        ensures { length (self.new).bytes.now ≤ length (self.old).bytes.now }
+    {
+        u32_at(self.take(4), 0)
     }
-    Report {
-        kind,
-        code: 0,
-        at: next,
+
+    // What was reported: 0 accepted, 1 closed, 2 an error with its code.
+    fn report(&mut self) -> Result<(), Fault>
+        ensures { length (self.new).bytes.now ≤ length (self.old).bytes.now }
+    {
+        match self.byte() {
+            0 => Ok(()),
+            1 => Err(Fault::Closed),
+            2 => Err(Fault::Error(self.number())),
+            _ => Err(Fault::Error(0)),
+        }
+    }
+
+    // A part of some packed bytes, put behind the first len of out: a byte repeated, or the bytes. How many out has then.
+    fn unpack_part(&mut self, out: &mut [u8], len: usize) -> usize
+        requires { len ≤ length out.old }
+        ensures { (length (self.new).bytes.now ≤ length (self.old).bytes.now) × (result ≤ length out.new) }
+    {
+        let word = self.number();
+        let count = (word % 0x8000_0000) as usize;
+        let end = len + count.min(out.len() - len);
+        if 0x8000_0000 <= word {
+            let b = self.byte();
+            out[len..end].fill(b);
+        } else {
+            put_bytes(out, len, self.take(count));
+        }
+        end
+    }
+
+    // Packed bytes to the front of out: how many.
+    fn unpack(&mut self, out: &mut [u8]) -> usize
+        ensures { length (self.new).bytes.now ≤ length (self.old).bytes.now }
+    {
+        let mut len = 0;
+        for _ in 0..self.byte() {
+            len = self.unpack_part(out, len);
+        }
+        len
     }
 }
 
 // ---- the records
 
+// What a record is: a list starts, a call, what was asked and reported, an answer, or a list ends.
+#[derive(Clone, Copy, PartialEq, Eq)]
+pub enum Kind {
+    Blank,
+    List,
+    Call,
+    Read,
+    Write,
+    Close,
+    Answer,
+    End,
+    Other,
+}
+
+impl From<u8> for Kind {
+    fn from(b: u8) -> Kind {
+        match b {
+            0 => Kind::Blank,
+            1 => Kind::List,
+            2 => Kind::Call,
+            3 => Kind::Read,
+            4 => Kind::Write,
+            5 => Kind::Close,
+            6 => Kind::Answer,
+            7 => Kind::End,
+            _ => Kind::Other,
+        }
+    }
+}
+
 // A record's numbers, how many bytes it gave, and where it ends. Its number is the call's, what is asked, or the byte that fills the buffers;
 // a and b are the call's two numbers, where a window or a piece starts and how long the window is, or how long the buffers are.
 #[derive(Clone, Copy)]
 pub struct Record {
-    pub kind: u8,
+    pub kind: Kind,
     pub number: u8,
     pub a: u32,
     pub b: u32,
-    pub report: u8,
-    pub code: u32,
+    pub report: Result<(), Fault>,
     pub len: usize,
     pub end: usize,
 }
 
+const BLANK: Record = Record {
+    kind: Kind::Blank,
+    number: 0,
+    a: 0,
+    b: 0,
+    report: Ok(()),
+    len: 0,
+    end: 0,
+};
+
+// Each reads a record of its kind, but for where it ends.
+
 // A list starts: how long both buffers are, the banner, and the byte that fills the buffers.
-fn list_at(s: &[u8], at: usize, out: &mut [u8]) -> Record
-    requires { at ≤ length s.now }
-    ensures { at ≤ result.end }
+fn list(s: &mut Rest<'_>, out: &mut [u8]) -> Record
+    ensures { length (s.new).bytes.now ≤ length (s.old).bytes.now }
 {
-    let taken = unpack(s, ahead(s.len(), at, 4), out);
+    let a = s.number();
+    let len = s.unpack(out);
     Record {
-        kind: 1,
-        number: byte_at(s, taken.at),
-        a: u32_at(s, at),
-        b: 0,
-        report: 0,
-        code: 0,
-        len: taken.len,
-        end: ahead(s.len(), taken.at, 1),
+        number: s.byte(),
+        a,
+        len,
+        ..BLANK
     }
 }
 
 // A call: its number, its two numbers, and what is lent to it.
-fn call_at(s: &[u8], at: usize, out: &mut [u8]) -> Record
-    requires { at ≤ length s.now }
-    ensures { at ≤ result.end }
+fn call(s: &mut Rest<'_>, out: &mut [u8]) -> Record
+    ensures { length (s.new).bytes.now ≤ length (s.old).bytes.now }
 {
-    let a = ahead(s.len(), at, 1);
-    let b = ahead(s.len(), a, 4);
-    let taken = unpack(s, ahead(s.len(), b, 4), out);
     Record {
-        kind: 2,
-        number: byte_at(s, at),
-        a: u32_at(s, a),
-        b: u32_at(s, b),
-        report: 0,
-        code: 0,
-        len: taken.len,
-        end: taken.at,
+        number: s.byte(),
+        a: s.number(),
+        b: s.number(),
+        len: s.unpack(out),
+        ..BLANK
     }
-}
-
-// The bytes that came, where a read was reported as accepted.
-fn came_at(s: &[u8], r: Report, out: &mut [u8]) -> Taken
-    requires { r.at ≤ length s.now }
-    ensures { r.at ≤ result.at }
-{
-    if r.kind == 0 {
-        return unpack(s, r.at, out);
-    }
-    Taken { at: r.at, len: 0 }
 }
 
 // A read: where the window starts, how long it is, what was reported, and the bytes that came.
-fn read_at(s: &[u8], at: usize, out: &mut [u8]) -> Record
-    requires { at ≤ length s.now }
-    ensures { at ≤ result.end }
+fn read(s: &mut Rest<'_>, out: &mut [u8]) -> Record
+    ensures { length (s.new).bytes.now ≤ length (s.old).bytes.now }
 {
-    let b = ahead(s.len(), at, 4);
-    let r = report_at(s, ahead(s.len(), b, 4));
-    let taken = came_at(s, r, out);
+    let a = s.number();
+    let b = s.number();
+    let report = s.report();
+    let len = if report.is_ok() { s.unpack(out) } else { 0 };
     Record {
-        kind: 3,
         number: 1,
-        a: u32_at(s, at),
-        b: u32_at(s, b),
-        report: r.kind,
-        code: r.code,
-        len: taken.len,
-        end: taken.at,
+        a,
+        b,
+        report,
+        len,
+        ..BLANK
     }
 }
 
 // A write: what it is a part of, where the piece starts, its bytes, and what was reported.
-fn write_at(s: &[u8], at: usize, out: &mut [u8]) -> Record
-    requires { at ≤ length s.now }
-    ensures { at ≤ result.end }
+fn write(s: &mut Rest<'_>, out: &mut [u8]) -> Record
+    ensures { length (s.new).bytes.now ≤ length (s.old).bytes.now }
 {
-    let a = ahead(s.len(), at, 1);
-    let taken = unpack(s, ahead(s.len(), a, 4), out);
-    let r = report_at(s, taken.at);
     Record {
-        kind: 4,
-        number: byte_at(s, at),
-        a: u32_at(s, a),
-        b: 0,
-        report: r.kind,
-        code: r.code,
-        len: taken.len,
-        end: r.at,
+        number: s.byte(),
+        a: s.number(),
+        len: s.unpack(out),
+        report: s.report(),
+        ..BLANK
     }
 }
 
 // The close: what was reported.
-fn close_at(s: &[u8], at: usize) -> Record
-    requires { at ≤ length s.now }
-    ensures { at ≤ result.end }
+fn close(s: &mut Rest<'_>) -> Record
+    ensures { length (s.new).bytes.now ≤ length (s.old).bytes.now }
 {
-    let r = report_at(s, at);
     Record {
-        kind: 5,
         number: 5,
-        a: 0,
-        b: 0,
-        report: r.kind,
-        code: r.code,
-        len: 0,
-        end: r.at,
+        report: s.report(),
+        ..BLANK
     }
 }
 
-// An answer (its number and kind, how many numbers it carries, those, its bytes), or the end of a list (how many bytes are held, and every
-// byte of the receive buffer): numbers of so many bytes, then the bytes.
-fn told_at(s: &[u8], kind: u8, at: usize, size: usize, out: &mut [u8]) -> Record
-    requires { at ≤ length s.now }
-    ensures { at ≤ result.end }
+// An answer: its number and kind, how many numbers it carries, those, its bytes.
+fn answer(s: &mut Rest<'_>, out: &mut [u8]) -> Record
+    ensures { length (s.new).bytes.now ≤ length (s.old).bytes.now }
 {
-    let taken = unpack(s, ahead(s.len(), at, size), out);
+    s.take(2);
+    let count = s.byte() as usize;
+    s.take(8 * count);
     Record {
-        kind,
-        number: 0,
-        a: 0,
-        b: 0,
-        report: 0,
-        code: 0,
-        len: taken.len,
-        end: taken.at,
+        len: s.unpack(out),
+        ..BLANK
     }
 }
 
-// How many bytes the numbers of an answer take.
-fn answer_size(s: &[u8], at: usize) -> usize
-    requires { at ≤ length s.now }
+// The end of a list: how many bytes are held, and every byte of the receive buffer.
+fn end(s: &mut Rest<'_>, out: &mut [u8]) -> Record
+    ensures { length (s.new).bytes.now ≤ length (s.old).bytes.now }
 {
-    let count = byte_at(s, ahead(s.len(), at, 2)) as usize;
-    3 + 8 * count
-}
-
-fn record_at(s: &[u8], kind: u8, at: usize, out: &mut [u8]) -> Record
-    requires { at ≤ length s.now }
-    ensures { at ≤ result.end }
-{
-    match kind {
-        1 => list_at(s, at, out),
-        3 => read_at(s, at, out),
-        4 => write_at(s, at, out),
-        5 => close_at(s, at),
-        6 => told_at(s, kind, at, answer_size(s, at), out),
-        _ => told_at(s, kind, at, 4, out),
+    s.take(4);
+    Record {
+        len: s.unpack(out),
+        ..BLANK
     }
 }
 
@@ -347,13 +278,22 @@ fn record_at(s: &[u8], kind: u8, at: usize, out: &mut [u8]) -> Record
 pub fn next(s: &[u8], at: usize, lent: &mut [u8], spare: &mut [u8]) -> Record
     ensures { at < length s.now → at < result.end }
 {
-    if s.len() <= at {
-        return told_at(s, 0, s.len(), 0, spare);
+    let mut rest = Rest {
+        bytes: &s[at.min(s.len())..],
+    };
+    let kind = Kind::from(rest.byte());
+    let record = match kind {
+        Kind::List => list(&mut rest, spare),
+        Kind::Call => call(&mut rest, lent),
+        Kind::Read => read(&mut rest, spare),
+        Kind::Write => write(&mut rest, spare),
+        Kind::Close => close(&mut rest),
+        Kind::Answer => answer(&mut rest, spare),
+        Kind::Blank | Kind::End | Kind::Other => end(&mut rest, spare),
+    };
+    Record {
+        kind,
+        end: s.len() - rest.bytes.len(),
+        ..record
     }
-    let kind = byte_at(s, at);
-    let from = at + 1;
-    if kind == 2 {
-        return call_at(s, from, lent);
-    }
-    record_at(s, kind, from, spare)
 }

@@ -8,10 +8,12 @@ use native.Mathlib.Omega.{arith}
 use borrow.Author.Tests.{le-leb, lt-leb}
 use lib.ListN.{length, take, drop, length-append}
 use lib.Seq.{take-append_seam}
+use Rattle.std.specs.Prelude.{Option, Some, None}
+use Rattle.decimal.proofs.Fitted.{fitted-in, fitted-out, end-fitted, some-none, some-some}
 use Rattle.protocol.specs.Bytes.{over, put}
 use Rattle.protocol.specs.Decimal.{decimal}
 use Rattle.protocol.specs.Messages.{rcv2, send, snd2, word, comma, joined, message_of, bytes_of_request}
-use Rattle.protocol.proofs.Bytes.{over-length, over-over, put_in, put-out, put_length-in, put_length-out, end_whole, end_back, end-put, end-put_length, length-bytes_of}
+use Rattle.protocol.proofs.Bytes.{over-length, over-over, put_in, put-out, end_whole, end_back, end-put, length-bytes_of}
 use Rattle.protocol.proofs.Messages.{word_low}
 use Rattle.request_message.specs.Composed.{only, placed, begun}
 
@@ -20,24 +22,24 @@ header-bytes i arg = refl
 
 -- the two cases of `placed` at the front, and of `begun`
 module _ (b m : List ℕ) where
-  pub placed-in : length m ≤ length b → (over b 0 m, length m) ≡ placed b 0 m
-  placed-in h = let f : 0 + length m ≤ length b = omega arith in rw (put_in b 0 m f, put_length-in b 0 m f)
+  pub placed-in : length m ≤ length b → (over b 0 m, Some (length m)) ≡ placed b 0 m
+  placed-in h = let f : 0 + length m ≤ length b = omega arith in rw (put_in b 0 m f, fitted-in b 0 m f)
 
-  pub placed-put : length m ≤ length b → (put b 0 m, length m) ≡ placed b 0 m
-  placed-put h = let f : 0 + length m ≤ length b = omega arith in rw (put_length-in b 0 m f)
+  pub placed-put : length m ≤ length b → (put b 0 m, Some (length m)) ≡ placed b 0 m
+  placed-put h = let f : 0 + length m ≤ length b = omega arith in rw (fitted-in b 0 m f)
 
-  pub placed-out : length b < length m → (b, 0) ≡ placed b 0 m
-  placed-out h = let f : length b < 0 + length m = omega arith in rw (put-out b 0 m f, put_length-out b 0 m f)
+  pub placed-out : length b < length m → (b, None) ≡ placed b 0 m
+  placed-out h = let f : length b < 0 + length m = omega arith in rw (put-out b 0 m f, fitted-out b 0 m f)
 
-  pub begun-in : (rest : ℕ) → length m + rest ≤ length b → (over b 0 m, length m) ≡ begun b rest m
+  pub begun-in : (rest : ℕ) → length m + rest ≤ length b → (over b 0 m, Some (length m)) ≡ begun b rest m
   unfolding begun
   begun-in rest h = simp (le-leb _ _ h)
 
-  pub begun-out : (rest : ℕ) → length b < length m + rest → (b, 0) ≡ begun b rest m
+  pub begun-out : (rest : ℕ) → length b < length m + rest → (b, None) ≡ begun b rest m
   unfolding begun
   begun-out rest h = simp (lt-leb _ _ h)
 
-pub placed-none : (b : List ℕ) → (b, 0) ≡ placed b 0 []
+pub placed-none : (b : List ℕ) → (b, Some 0) ≡ placed b 0 []
 unfolding over
 placed-none b = placed-in b [] (omega arith)
 
@@ -65,40 +67,41 @@ unfolding over
 puts_front ps b h = puts_over ps b [] (omega arith)
 
 -- m was begun, with room behind it for the parts ps and rest bytes more
-module _ (b m : List ℕ) (room : ℕ) (e : List ℕ) (at : ℕ) (q : (e, at) ≡ begun b room m) (ps : List (List ℕ)) (rest : ℕ) (l : room ≡ length (joined ps) + rest) where
+module _ (b m : List ℕ) (room : ℕ) (e : List ℕ) (o : Option ℕ) (q : (e, o) ≡ begun b room m) (ps : List (List ℕ)) (rest : ℕ) (l : room ≡ length (joined ps) + rest) where
   with-parts : length (m ++ joined ps) + rest ≡ length m + room
   with-parts = omega (arith, length-append m (joined ps))
 
-  fits : length m + room ≤ length b → ◌≡◌ {A = List ℕ × ℕ} (e, at) (over b 0 m, length m)
+  fits : length m + room ≤ length b → ◌≡◌ {A = List ℕ × Option ℕ} (e, o) (over b 0 m, Some (length m))
   fits f = q ∙ sym (begun-in b m room f)
 
-  short : (length m + room ≤ length b → ⊥) → ◌≡◌ {A = List ℕ × ℕ} (e, at) (b, 0)
+  short : (length m + room ≤ length b → ⊥) → ◌≡◌ {A = List ℕ × Option ℕ} (e, o) (b, None)
   short f = q ∙ sym (begun-out b m room (lt_of_not-le f))
 
   -- it fits: the parts are put behind it
-  pub go_on : (at ≡ 0 → ⊥) → (puts e at ps, at + length (joined ps)) ≡ begun b rest (m ++ joined ps)
-  go_on n = go (dec_le (length m + room) (length b))
+  pub go_on : (at : ℕ) → o ≡ Some at → (puts e at ps, Some (at + length (joined ps))) ≡ begun b rest (m ++ joined ps)
+  go_on at n = go (dec_le (length m + room) (length b))
     where
-      go : Dec (length m + room ≤ length b) → (puts e at ps, at + length (joined ps)) ≡ begun b rest (m ++ joined ps)
+      go : Dec (length m + room ≤ length b) → (puts e at ps, Some (at + length (joined ps))) ≡ begun b rest (m ++ joined ps)
       go (yes f) =
-          ap (λ (s : List ℕ × ℕ). (puts s.0 s.1 ps, s.1 + length (joined ps))) (fits f)
-          ∙ rw (puts_over ps b m (omega arith), ← length-append m (joined ps)) (begun-in b (m ++ joined ps) rest (rw with-parts f))
-      go (no f) = absurd (n (ap (λ (s : List ℕ × ℕ). s.1) (short f)))
+          let k : at ≡ length m = some-some (sym n ∙ ap (λ (s : List ℕ × Option ℕ). s.1) (fits f)) in
+          let w : e ≡ over b 0 m = ap (λ (s : List ℕ × Option ℕ). s.0) (fits f) in
+          rw (k, w, puts_over ps b m (omega arith), ← length-append m (joined ps)) (begun-in b (m ++ joined ps) rest (rw with-parts f))
+      go (no f) = absurd (some-none (sym n ∙ ap (λ (s : List ℕ × Option ℕ). s.1) (short f)))
 
   -- it does not: nothing was altered
-  pub stop : 0 < length m → at ≡ 0 → (e, 0) ≡ begun b rest (m ++ joined ps)
-  stop some z = go (dec_le (length m + room) (length b))
+  pub stop : o ≡ None → (e, None) ≡ begun b rest (m ++ joined ps)
+  stop n = go (dec_le (length m + room) (length b))
     where
-      go : Dec (length m + room ≤ length b) → (e, 0) ≡ begun b rest (m ++ joined ps)
-      go (yes f) = let k = ap (λ (s : List ℕ × ℕ). s.1) (fits f) in absurd (omega arith)
-      go (no f) = ap (λ (s : List ℕ × ℕ). (s.0, 0)) (short f) ∙ begun-out b (m ++ joined ps) rest (rw with-parts (lt_of_not-le f))
+      go : Dec (length m + room ≤ length b) → (e, None) ≡ begun b rest (m ++ joined ps)
+      go (yes f) = absurd (some-none (sym (ap (λ (s : List ℕ × Option ℕ). s.1) (fits f)) ∙ n))
+      go (no f) = ap (λ (s : List ℕ × Option ℕ). (s.0, None)) (short f) ∙ begun-out b (m ++ joined ps) rest (rw with-parts (lt_of_not-le f))
 
-pub begun-within : (b m : List ℕ) (rest : ℕ) (e : List ℕ) (at : ℕ) → (e, at) ≡ begun b rest m → at ≤ length b
+pub begun-within : (b m : List ℕ) (rest : ℕ) (e : List ℕ) (at : ℕ) → (e, Some at) ≡ begun b rest m → at ≤ length b
 begun-within b m rest e at q = go (dec_le (length m + rest) (length b))
   where
     go : Dec (length m + rest ≤ length b) → at ≤ length b
-    go (yes f) = let l = ap (λ (s : List ℕ × ℕ). s.1) (q ∙ sym (begun-in b m rest f)) in omega arith
-    go (no f) = let l = ap (λ (s : List ℕ × ℕ). s.1) (q ∙ sym (begun-out b m rest (lt_of_not-le f))) in omega arith
+    go (yes f) = let l = some-some (ap (λ (s : List ℕ × Option ℕ). s.1) (q ∙ sym (begun-in b m rest f))) in omega arith
+    go (no f) = absurd (some-none (ap (λ (s : List ℕ × Option ℕ). s.1) (q ∙ sym (begun-out b m rest (lt_of_not-le f)))))
 
 -- nothing more is to come: the message r is whole
 pub begun-whole : (b m r : List ℕ) → m ≡ r → begun b 0 m ≡ placed b 0 r
@@ -109,7 +112,7 @@ begun-whole b m r e = go (dec_le (length m) (length b)) ∙ ap (placed b 0) e
     go (no f) = sym (begun-out b m 0 (omega (arith, lt_of_not-le f))) ∙ placed-out b m (lt_of_not-le f)
 
 -- a header that fits, as code puts it
-pub header-puts : (b : List ℕ) (i : ℕ) (arg : ℕ) → 8 ≤ length b → (put (put b 0 (word i)) 4 (word arg), 8) ≡ placed b 0 (word i ++ word arg)
+pub header-puts : (b : List ℕ) (i : ℕ) (arg : ℕ) → 8 ≤ length b → (put (put b 0 (word i)) 4 (word arg), Some 8) ≡ placed b 0 (word i ++ word arg)
 header-puts b i arg h =
     let f = length-bytes_of 4 i in
     let l = header-bytes i arg in
@@ -120,35 +123,34 @@ header-puts b i arg h =
 pub front_bytes : (i : ℕ) (arg : ℕ) (lent : List ℕ) → length (word i ++ word arg ++ lent) ≡ 8 + length lent
 front_bytes i arg lent = length-append (word i ++ word arg) lent ∙ ap (λ (n : ℕ). n + length lent) (header-bytes i arg)
 
-pub begin-puts : (b : List ℕ) (i : ℕ) (count : ℕ) (lent : List ℕ) (rest : ℕ) (e : List ℕ) (r : ℕ)
+pub begin-puts : (b : List ℕ) (i : ℕ) (count : ℕ) (lent : List ℕ) (rest : ℕ) (e : List ℕ) (r : Option ℕ)
     → (e, r) ≡ placed b 0 (word i ++ word (count % 0x1_0000_0000)) → 8 + rest + length lent ≤ length b
-    → (put e 8 lent, 8 + length lent) ≡ begun b rest (word i ++ word count ++ lent)
+    → (put e 8 lent, Some (8 + length lent)) ≡ begun b rest (word i ++ word count ++ lent)
 begin-puts b i count lent rest e r q h =
     let m : List ℕ = word i ++ word count in
     let l : length m ≡ 8 = header-bytes i count in
     let f = front_bytes i count lent in
     let w = q ∙ ap (λ l. placed b 0 (word i ++ l)) (word_low count) ∙ sym (placed-in b m (omega arith)) in
-    ap (λ (s : List ℕ × ℕ). (put s.0 8 lent, 8 + length lent)) w
+    ap (λ (s : List ℕ × Option ℕ). (put s.0 8 lent, Some (8 + length lent))) w
     ∙ rw (rw l at (behind b m lent (omega arith))) (rw f at (begun-in b (m ++ lent) rest (omega arith)))
 
 -- an id and a word behind what was begun, as code puts them
-module _ (b m : List ℕ) (e : List ℕ) (at rest : ℕ) (q : (e, at) ≡ begun b (8 + rest) m) (i : ℕ) (x : ℕ) where
+module _ (b m : List ℕ) (e : List ℕ) (o : Option ℕ) (rest : ℕ) (q : (e, o) ≡ begun b (8 + rest) m) (i : ℕ) (x : ℕ) where
   v2_room : 8 + rest ≡ length (word i ++ word x) + rest
   v2_room = ap (λ (n : ℕ). n + rest) (sym (header-bytes i x))
 
-  pub v2_puts : (at ≡ 0 → ⊥) → (put (put e at (word i)) (at + 4) (word x), at + 8) ≡ begun b rest (m ++ (word i ++ word x))
-  v2_puts n = rw (header-bytes i x, length-bytes_of 4 i) at (go_on b m (8 + rest) e at q (word i ∷ word x ∷ []) rest v2_room n)
+  pub v2_puts : (at : ℕ) → o ≡ Some at → (put (put e at (word i)) (at + 4) (word x), Some (at + 8)) ≡ begun b rest (m ++ (word i ++ word x))
+  v2_puts at n = rw (header-bytes i x, length-bytes_of 4 i) at (go_on b m (8 + rest) e o q (word i ∷ word x ∷ []) rest v2_room at n)
 
-  pub v2_stop : 0 < length m → at ≡ 0 → (e, 0) ≡ begun b rest (m ++ (word i ++ word x))
-  v2_stop = stop b m (8 + rest) e at q (word i ∷ word x ∷ []) rest v2_room
+  pub v2_stop : o ≡ None → (e, None) ≡ begun b rest (m ++ (word i ++ word x))
+  v2_stop = stop b m (8 + rest) e o q (word i ∷ word x ∷ []) rest v2_room
 
 -- what was placed in a buffer of its own, read back
-pub placed-read : (z d e : List ℕ) (n : ℕ) → (e, n) ≡ placed z 0 d → length d ≤ length z → (n ≡ length d) × (take n e ≡ d)
+pub placed-read : (z d e : List ℕ) (o : Option ℕ) → (e, o) ≡ placed z 0 d → length d ≤ length z → (o ≡ Some (length d)) × (take (length d) e ≡ d)
 unfolding over
-placed-read z d e n q h =
+placed-read z d e o q h =
     let w = q ∙ sym (placed-in z d h) in
-    let l : n ≡ length d = ap (λ (s : List ℕ × ℕ). s.1) w in
-    (l, rw (l, ap (λ (s : List ℕ × ℕ). s.0) w) (take-append_seam d (drop (0 + length d) z)))
+    (ap (λ (s : List ℕ × Option ℕ). s.1) w, rw (ap (λ (s : List ℕ × Option ℕ). s.0) w) (take-append_seam d (drop (0 + length d) z)))
 
 -- the bytes of a request, as code puts them one behind the other
 pub rcv2-bytes : (i : ℕ) (p : List ℕ) (f : ℕ) → word i ++ word (length p) ++ p ++ (word i ++ word f) ≡ bytes_of_request (only i) (rcv2 p f)
@@ -170,12 +172,12 @@ send-bytes i p m d e =
     rw (e, n, append-nil) (append_assoc (word i ++ word (length p + 1 + length (decimal m))) p (comma ++ decimal m))
 
 -- nothing is placed from past the end on
-pub placed_past : (b : List ℕ) (t : ℕ) (m : List ℕ) → length b < t → (b, 0) ≡ placed b t m
-placed_past b t m h = let f : length b < t + length m = omega arith in rw (put-out b t m f, put_length-out b t m f)
+pub placed_past : (b : List ℕ) (t : ℕ) (m : List ℕ) → length b < t → (b, None) ≡ placed b t m
+placed_past b t m h = let f : length b < t + length m = omega arith in rw (put-out b t m f, fitted-out b t m f)
 
 -- what is placed at the front of the end from t on, lent and come back, is placed from t on
-pub placed_end : (b : List ℕ) (t : ℕ) → t ≤ length b → (m e : List ℕ) (n : ℕ) → (e, n) ≡ placed (take (length b - t) (drop t b)) 0 m
+pub placed_end : (b : List ℕ) (t : ℕ) → t ≤ length b → (m e : List ℕ) (n : Option ℕ) → (e, n) ≡ placed (take (length b - t) (drop t b)) 0 m
     → (take t b ++ (e ++ drop (length b - t) (drop t b)), n) ≡ placed b t m
 placed_end b t w m e n q =
     let s = q ∙ ap (λ l. placed l 0 m) (end_whole b t w) in
-    rw (end_back b t w e, ← end-put b t w m, ← end-put_length b t w m) (ap (λ (p : List ℕ × ℕ). (take t b ++ p.0, p.1)) s)
+    rw (end_back b t w e, ← end-put b t w m, ← end-fitted b t w m) (ap (λ (p : List ℕ × Option ℕ). (take t b ++ p.0, p.1)) s)

@@ -1,6 +1,7 @@
 -- The id of each request, and what composing a message leaves: the buffer, and how many bytes stand there. Assumes nothing.
-use Rattle.std.specs.Prelude.{ℕ, ◌+◌, List, leb, length}
-use Rattle.protocol.specs.Bytes.{pick, over, put, put_length}
+use Rattle.std.specs.Prelude.{ℕ, ◌+◌, List, leb, length, Option, Some, None}
+use Rattle.decimal.specs.Fitted.{fitted}
+use Rattle.protocol.specs.Bytes.{pick, over, put}
 use Rattle.protocol.specs.Ids.{Id, Dialect, under, STAT, STA2, LIST, LIS2, SEND, SND2, RECV, RCV2, DATA, DONE, QUIT}
 use Rattle.protocol.specs.Messages.{word}
 use Rattle.request.specs.declared.Request.{Request}
@@ -24,10 +25,10 @@ asked Q.Data = DATA
 asked (Q.Done t) = DONE
 asked Q.Quit = QUIT
 
--- m from at on, and its length; nothing altered, and 0, where it does not fit
-abbrev pub placed : List ℕ → ℕ → List ℕ → List ℕ × ℕ
-placed b at m = (put b at m, put_length b at m)
+-- m from at on, and its length; nothing altered, and none, where it does not fit
+abbrev pub placed : List ℕ → ℕ → List ℕ → List ℕ × Option ℕ
+placed b at m = (put b at m, fitted b at m)
 
 -- m at the front, where rest bytes more fit behind it
-unfoldable pub begun : List ℕ → ℕ → List ℕ → List ℕ × ℕ
-begun b rest m = pick (leb (length m + rest) (length b)) (over b 0 m, length m) (b, 0)
+unfoldable pub begun : List ℕ → ℕ → List ℕ → List ℕ × Option ℕ
+begun b rest m = pick (leb (length m + rest) (length b)) (over b 0 m, Some (length m)) (b, None)

@@ -5,23 +5,20 @@ ghost use Rattle.std.specs.Prelude.{◌≡◌};
 ghost use Rattle.decimal.specs.Meaning.{parsed};
 ghost use Rattle.protocol.specs.Modes.{mode_in};
 
-use decimal::{Parsed, parse_digits, parse_u32};
+use decimal::{parse_digits, parse_u32};
 
 // The longest text of a mode: a 0 and eleven octal digits.
 pub const MAX_MODE: usize = 12;
 
 // The mode that a text gives.
-pub fn parse_mode(text: &[u8]) -> Parsed
+pub fn parse_mode(text: &[u8]) -> Option<u32>
     ensures { parsed result ≡ mode_in text.now }
 {
-    if text.len() < 2 {
-        return parse_u32(text);
-    }
-    if text[0] != b'0' {
+    if text.len() < 2 || text[0] != b'0' {
         return parse_u32(text);
     }
     if MAX_MODE < text.len() {
-        return Parsed::Invalid;
+        return None;
     }
     parse_digits(&text[1..], 8)
 }

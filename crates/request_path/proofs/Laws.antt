@@ -1,20 +1,16 @@
--- What a path's refusal by its number says. Assumes nothing.
-use Prim.Native.Nat.{ℕ, zero, suc}
-use mathlib.Core.Option.{some}
+-- What a check of a path says. Assumes nothing.
+use mathlib.Core.Bool.{not}
 use mathlib.Core.Path.{◌≡◌, refl}
-use native.Mathlib.Omega.{arith}
-use borrow.Author.Tests.{ne_eqb}
-use lib.Dec.{eqb}
-use Rattle.protocol.specs.Answers.{refused}
+use Rattle.std.specs.Prelude.{Result, Ok, Err, is_ok, is_err}
 use Rattle.protocol.specs.Refusal.{is_none}
+use Rattle.request_path.specs.declared.PathRefusal.{PathRefusal}
 use Rattle.request_path.specs.Meaning.{refused_by}
 
--- a number that is not 0
-pub some-by : (n : ℕ) → (n ≡ 0 → ⊥) → refused_by n ≡ some (refused n)
-some-by zero h = absurd (h refl)
-some-by (suc n) h = refl
+-- a good path has no refusal
+pub none-by : (r : Result Unit PathRefusal) → is_ok r ≡ is_none (refused_by r)
+none-by (Ok x) = refl
+none-by (Err e) = refl
 
--- 0 alone is none
-pub none-by : (n : ℕ) → eqb n 0 ≡ is_none (refused_by n)
-none-by zero = refl
-none-by (suc n) = ne_eqb (suc n) 0 (omega arith)
+pub err-by : (r : Result Unit PathRefusal) → is_err r ≡ not (is_none (refused_by r))
+err-by (Ok x) = refl
+err-by (Err e) = refl

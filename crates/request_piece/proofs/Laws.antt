@@ -8,7 +8,7 @@ use native.Mathlib.Numerals.{one-add}
 use native.Mathlib.Omega.{arith}
 use borrow.Author.Tests.{ne_eqb}
 use lib.Dec.{eqb}
-use lib.ListN.{length, drop, get_or, get_elem?, replicate, get_or-map}
+use lib.ListN.{length, drop, get_or, get_elem?, get_or-map}
 use lib.Seq.{get_or-drop}
 use Rattle.protocol.specs.Bytes.{pick}
 use Rattle.protocol.specs.Decimal.{decimal}
@@ -22,14 +22,6 @@ use Rattle.request_message.specs.Composed.{only}
 use Rattle.request_piece.specs.Pieces.{low32, header_of, parts_of, piece_list, piece_of, shown}
 use Rattle.request_piece.specs.declared.Piece.{Piece}
 use Rattle.request_piece.specs.declared.Piece.TheVariants.{Lent, End}
-
--- an End behind the last changes nothing
-pub padded : (n : ℕ) (ps : List Piece) (j : ℕ) → get_or (ps ++ replicate n End) j End ≡ get_or ps j End
-padded zero [] j = refl
-padded (suc n) [] zero = refl
-padded (suc n) [] (suc j) = padded n [] j
-padded n (p ∷ ps) zero = refl
-padded n (p ∷ ps) (suc j) = padded n ps j
 
 -- the header's arg has 32 bits
 low : (i n : ℕ) → some (word i ++ word (low32 n)) ≡ some (word i ++ word n)

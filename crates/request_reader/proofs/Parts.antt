@@ -8,6 +8,7 @@ use native.Mathlib.Nat.{add-zero}
 use native.Mathlib.Omega.{arith}
 use borrow.Author.Tests.{lt-ltb, le-ltb, lt-leb, le-leb}
 use lib.Dec.{leb, ltb}
+use Rattle.std.specs.Prelude.{Result, Ok, Err}
 use lib.ListN.{length, take, drop}
 use lib.Seq.{drop-drop, take-take}
 use Rattle.protocol.specs.Bytes.{pick, Bytes, same, le, number_at, whole}
@@ -18,11 +19,9 @@ use Rattle.protocol.specs.Records.{header_size, id_at, u32_at}
 use Rattle.protocol.specs.Requests.{Read, more, refused, request, path_only, path_flags, path_mode_flags, arg_ok, following, bad_path, unless_bad, body_of}
 use Rattle.protocol.proofs.Bytes.{same_refl, same-eq, whole_in}
 use Rattle.protocol.proofs.Words.{word-spelled}
-use Rattle.request.specs.Meaning.{meant}
-use Rattle.request.specs.declared.Request as R
-use Rattle.request_reader.specs.Meaning.{told, on_arg, part_of, on_whole, words_of, staged, read_of}
-use Rattle.request_reader.specs.declared.Part.{Part}
-use Rattle.request_reader.specs.declared.Part.TheVariants as T
+use Rattle.request_reader.specs.Meaning.{on_arg, part_of, on_whole, words_of, staged}
+use Rattle.request_reader.specs.declared.Unread.{Unread}
+use Rattle.request_reader.specs.declared.Unread.TheVariants.{More, Refused}
 
 -- a part of a list's front is a part of the list
 part_of-front : (off k m : ℕ) (l : List ℕ) → off + k ≤ m → take k (drop off (take m l)) ≡ take k (drop off l)
@@ -42,12 +41,12 @@ module _ (s : List ℕ) (off m : ℕ) (h : off + 4 ≤ m) where
 
 -- the tests of a path, in their order
 module _ (n behind : ℕ) (s : List ℕ) where
-  pub part-long : published.longest < n → part_of n behind s ≡ T.Refused
+  pub part-long : published.longest < n → part_of n behind s ≡ Err Refused
   unfolding part_of
   part-long h = rw (lt-leb _ _ h)
 
   module _ (short : n ≤ published.longest) where
-    pub part-more : length s < header_size + (n + behind) → part_of n behind s ≡ T.More
+    pub part-more : length s < header_size + (n + behind) → part_of n behind s ≡ Err More
     unfolding part_of
     part-more h = rw (le-leb _ _ short, lt-ltb _ _ h)
 
@@ -55,15 +54,15 @@ module _ (n behind : ℕ) (s : List ℕ) where
       size : header_size + n - header_size ≡ n
       size = omega arith
 
-      pub part-bad : bad_path published (take (header_size + n - header_size) (drop header_size s)) ≡ true → part_of n behind s ≡ T.Refused
+      pub part-bad : bad_path published (take (header_size + n - header_size) (drop header_size s)) ≡ true → part_of n behind s ≡ Err Refused
       unfolding part_of
       part-bad e = rw (le-leb _ _ short, le-ltb _ _ there, rw size at e)
 
-      pub part-good : bad_path published (take (header_size + n - header_size) (drop header_size s)) ≡ false → part_of n behind s ≡ T.Whole
+      pub part-good : bad_path published (take (header_size + n - header_size) (drop header_size s)) ≡ false → part_of n behind s ≡ Ok tt
       unfolding part_of
       part-good e = rw (le-leb _ _ short, le-ltb _ _ there, rw size at e)
 
-  pub part-whole : part_of n behind s ≡ T.Whole → header_size + (n + behind) ≤ length s
+  pub part-whole : part_of n behind s ≡ Ok tt → header_size + (n + behind) ≤ length s
   part-whole e = go (dec_le n published.longest) (dec_le (header_size + (n + behind)) (length s))
     where
       go : Dec (n ≤ published.longest) → Dec (header_size + (n + behind) ≤ length s) → header_size + (n + behind) ≤ length s
@@ -72,22 +71,17 @@ module _ (n behind : ℕ) (s : List ℕ) where
       go (yes short) (no g) = let z : ◌≡◌ {A = ℕ} 0 1 = cc (part-more short (omega arith)) in absurd (omega arith)
 
 -- answers that go by these tests
-staged-pick : (t : Bool) (a b : Part) (x : Read) → staged (pick t a b) x ≡ pick t (staged a x) (staged b x)
+staged-pick : (t : Bool) (a b : Result Unit Unread) (x : Read) → staged (pick t a b) x ≡ pick t (staged a x) (staged b x)
 staged-pick true a b x = refl
 staged-pick false a b x = refl
 
-whole-pick : (t : Bool) (a b x : Part) → on_whole (pick t a b) x ≡ pick t (on_whole a x) (on_whole b x)
+whole-pick : (t : Bool) (a b x : Result Unit Unread) → on_whole (pick t a b) x ≡ pick t (on_whole a x) (on_whole b x)
 whole-pick true a b x = refl
 whole-pick false a b x = refl
 
 pick-or : (a b c : Bool) (x y : Read) → pick (a || b || c) x y ≡ pick a x (pick (b || c) x y)
 pick-or true b c x y = refl
 pick-or false b c x y = refl
-
-pub told-staged : (s : List ℕ) (p : Part) (q : R.Request) (lent size : ℕ) → told s (read_of p q lent size) ≡ staged p (request (meant q (take lent (drop header_size s))) size)
-told-staged s T.More q lent size = refl
-told-staged s T.Refused q lent size = refl
-told-staged s T.Whole q lent size = refl
 
 pub on-path : (i : PathOnly) (n : ℕ) (s : List ℕ) → on_arg (path_only i) n s ≡ staged (part_of n 0 s) (request (ask i (take n (drop header_size s))) (header_size + n))
 unfolding on_arg arg_ok following body_of bad_path part_of

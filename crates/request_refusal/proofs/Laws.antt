@@ -3,24 +3,38 @@ use mathlib.Core.Bool.{Bool, false, ◌&&◌, not}
 use mathlib.Core.List.{List, ◌∷◌}
 use mathlib.Core.Option.{Option, none, some}
 use mathlib.Core.Path.{◌≡◌, refl}
-use Prim.Native.Nat.{ℕ, zero, suc, ◌<◌}
-use native.Mathlib.Nat.{not-suc-le-zero}
 use lib.ListN.{get_or}
+use Rattle.std.specs.Prelude.{Result, Ok, Err, is_ok}
+use Rattle.features.specs.Meaning.{feature_number}
+use Rattle.features.specs.declared.Feature.{Feature}
+use Rattle.features.specs.declared.Feature.TheVariants.{StatV2, LsV2, SendRecvV2, Brotli, Lz4, Zstd, DryRunSend}
 use Rattle.protocol.specs.Answers.{Answer, missing}
-use Rattle.protocol.specs.Refusal.{or_else, refuse, feature_refusal, path_refusal, request_refusal}
+use Rattle.protocol.specs.Refusal.{or_else, refuse, is_none, feature_refusal, path_refusal, request_refusal}
 use Rattle.protocol.specs.Ids.{Table, under}
 use Rattle.protocol.specs.Messages.{Request, ask, rcv2, send, snd2, chunk, done, quit}
+use Rattle.request_refusal.specs.Meaning.{checked}
+use Rattle.request_refusal.specs.declared.Refusal.{Refusal}
 
 pub or_none : (a : Option Answer) → or_else a none ≡ a
 or_none none = refl
 or_none (some x) = refl
 
--- feature n, looked up in a list that has the first at 1
-pub feature_at : (fs : List Bool) (needed : Bool) (n : ℕ) → 0 < n
-    → feature_refusal fs needed n ≡ refuse (needed && not (get_or (false ∷ fs) n false)) (missing n)
+-- a feature, looked up by its number in a list that has the first at 1
+pub feature_at : (fs : List Bool) (needed : Bool) (f : Feature)
+    → feature_refusal fs needed (feature_number f) ≡ refuse (needed && not (get_or (false ∷ fs) (feature_number f) false)) (missing (feature_number f))
 unfolding feature_refusal
-feature_at fs needed zero h = absurd (not-suc-le-zero h)
-feature_at fs needed (suc n) h = refl
+feature_at fs needed StatV2 = refl
+feature_at fs needed LsV2 = refl
+feature_at fs needed SendRecvV2 = refl
+feature_at fs needed Brotli = refl
+feature_at fs needed Lz4 = refl
+feature_at fs needed Zstd = refl
+feature_at fs needed DryRunSend = refl
+
+-- what is not refused
+pub ok-checked : (r : Result Unit Refusal) → is_ok r ≡ is_none (checked r)
+ok-checked (Ok x) = refl
+ok-checked (Err e) = refl
 
 -- 8, 7, 9 and 10 depend neither on the letters of a table nor on whether the session has ended
 pub alike : (t u : Table) (fs : List Bool) (e f : Bool) (q : Request)

@@ -1,112 +1,90 @@
 // The refusals of a request, in their order: 8, 7, 9, 10 (000's `check_path` and `require_sendrecv_v2`).
 #![tactic(auto)]
 
-ghost use Rattle.std.specs.Prelude.{◌≡◌, ◌<◌};
-ghost use Rattle.features.specs.Meaning.{listed};
-ghost use Rattle.protocol.specs.Refusal.{or_else, path_refusal, flag_refusal, feature_refusal, transfer_refusal, request_refusal};
-ghost use Rattle.protocol.specs.Ids.{published};
+ghost use Rattle.std.specs.Prelude.{◌≡◌};
+ghost use Rattle.features.specs.Meaning.{listed, feature_number};
+ghost use Rattle.protocol.specs.Refusal.{or_else, flag_refusal, feature_refusal, transfer_refusal, request_refusal};
 ghost use Rattle.request_refusal.specs.Meaning.{checked, setting};
+ghost use Rattle.request_refusal.specs.declared.Refusal.TheVariants.{Path};
 ghost use Rattle.request.specs.Meaning.{meant};
 
-use features::Features;
+use features::{Feature, Features};
 use format_flags::SyncFlags;
 use request::Request;
-use request_path::path_refusal;
+use request_path::{PathRefusal, check_path};
 
-#[derive(Clone, Copy)]
-pub enum Check {
-    Fine,
-    // Answer 8, 7 or 9.
-    Refused(u8),
-    // Answer 10, with the number of the missing feature.
-    Missing(u8),
+#[derive(Clone, Copy, PartialEq, Eq)]
+pub enum Refusal {
+    // Answer 8 or 7.
+    Path(PathRefusal),
+    // Answer 9.
+    Flags,
+    // Answer 10.
+    Missing(Feature),
 }
 
-impl Check {
-    // The first of two refusals.
-    fn or(self, next: Check) -> Check
-        ensures { checked result ≡ or_else (checked self) (checked next) }
-    {
-        match self {
-            Check::Fine => next,
-            Check::Refused(number) => Check::Refused(number),
-            Check::Missing(feature) => Check::Missing(feature),
-        }
-    }
-}
+impl From<PathRefusal> for Refusal {
+    ghost from_gives = { λ e r. r ≡ Path e };
 
-// 8, then 7.
-fn check_path(path: &[u8]) -> Check
-    ensures { checked result ≡ path_refusal published path.now }
-{
-    let number = path_refusal(path);
-    if number == 0 {
-        return Check::Fine;
+    fn from(e: PathRefusal) -> Refusal {
+        Refusal::Path(e)
     }
-    Check::Refused(number)
 }
 
 // 9.
-fn check_flags(flags: SyncFlags, pull: bool) -> Check
+fn check_flags(flags: SyncFlags, pull: bool) -> Result<(), Refusal>
     ensures { checked result ≡ flag_refusal pull flags.0 }
 {
     if flags.refused(pull) {
-        return Check::Refused(9);
+        return Err(Refusal::Flags);
     }
-    Check::Fine
+    Ok(())
 }
 
-// 10, where the feature of that number is needed and not there.
-fn check_feature(features: Features, needed: bool, number: u8) -> Check
-    requires { 0 < number }
-    ensures { checked result ≡ feature_refusal (listed features) needed number }
+// 10, where the feature is needed and not there.
+fn check_feature(features: Features, needed: bool, feature: Feature) -> Result<(), Refusal>
+    ensures { checked result ≡ feature_refusal (listed features) needed (feature_number feature) }
 {
-    if needed {
-        if features.has(number as u32) {
-            return Check::Fine;
-        }
-        return Check::Missing(number);
+    if needed && !features.offers(feature) {
+        return Err(Refusal::Missing(feature));
     }
-    Check::Fine
+    Ok(())
 }
 
 // 10 of a transfer of version 2: feature 3, then those of its flags.
-fn check_transfer(features: Features, flags: SyncFlags) -> Check
+#[tactic(auto, unfolding(protocol::specs::Refusal::transfer_refusal))]
+fn check_transfer(features: Features, flags: SyncFlags) -> Result<(), Refusal>
     ensures { checked result ≡ transfer_refusal (listed features) flags.0 }
 {
     let bits = flags.bits();
-    let sendrecv_v2 = check_feature(features, true, 3);
-    let brotli = check_feature(features, bits % 2 == 1, 4);
-    let lz4 = check_feature(features, bits / 2 % 2 == 1, 5);
-    let zstd = check_feature(features, bits / 4 % 2 == 1, 6);
-    let dry_run_send = check_feature(features, flags.dry_run(), 7);
-    sendrecv_v2.or(brotli.or(lz4.or(zstd.or(dry_run_send))))
+    check_feature(features, true, Feature::SendRecvV2)?;
+    check_feature(features, bits % 2 == 1, Feature::Brotli)?;
+    check_feature(features, bits / 2 % 2 == 1, Feature::Lz4)?;
+    check_feature(features, bits / 4 % 2 == 1, Feature::Zstd)?;
+    check_feature(features, flags.dry_run(), Feature::DryRunSend)
 }
 
 // A transfer of version 2, but for its path: 9, then 10.
-fn check_v2(features: Features, flags: SyncFlags, pull: bool) -> Check
+fn check_v2(features: Features, flags: SyncFlags, pull: bool) -> Result<(), Refusal>
     ensures { checked result ≡ or_else (flag_refusal pull flags.0) (transfer_refusal (listed features) flags.0) }
 {
-    let refused = check_flags(flags, pull);
-    let missing = check_transfer(features, flags);
-    refused.or(missing)
+    check_flags(flags, pull)?;
+    check_transfer(features, flags)
 }
 
 // What is refused of a request whose path or data is lent beside it.
-pub fn check_request(features: Features, q: Request, lent: &[u8]) -> Check
+#[tactic(auto, using(crate::proofs::Laws::or_none), unfolding(protocol::specs::Refusal::request_refusal))]
+pub fn check_request(features: Features, q: Request, lent: &[u8]) -> Result<(), Refusal>
     ensures { checked result ≡ request_refusal (setting features) (meant q lent.now) }
 {
+    if !matches!(q, Request::Data | Request::Done(_) | Request::Quit) {
+        check_path(lent)?;
+    }
     match q {
-        Request::Stat => check_path(lent),
-        Request::Sta2 => check_path(lent).or(check_feature(features, true, 1)),
-        Request::List => check_path(lent),
-        Request::Lis2 => check_path(lent).or(check_feature(features, true, 2)),
-        Request::Recv => check_path(lent),
-        Request::Rcv2(flags) => check_path(lent).or(check_v2(features, flags, true)),
-        Request::Send(_) => check_path(lent),
-        Request::Snd2(_, flags) => check_path(lent).or(check_v2(features, flags, false)),
-        Request::Data => Check::Fine,
-        Request::Done(_) => Check::Fine,
-        Request::Quit => Check::Fine,
+        Request::Sta2 => check_feature(features, true, Feature::StatV2),
+        Request::Lis2 => check_feature(features, true, Feature::LsV2),
+        Request::Rcv2(flags) => check_v2(features, flags, true),
+        Request::Snd2(_, flags) => check_v2(features, flags, false),
+        _ => Ok(()),
     }
 }

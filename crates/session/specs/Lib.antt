@@ -1,4 +1,5 @@
 pub mod State
+pub mod Misuse
 pub mod Phases
 pub mod Steps
 pub mod Sends

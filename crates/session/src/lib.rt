@@ -4,6 +4,7 @@
 ghost use Rattle.std.specs.Prelude.{◌≡◌};
 ghost use Rattle.session.specs.State.{at, begun, shut, answering, refusing};
 ghost use Rattle.session.specs.Calls.{misfit};
+ghost use Rattle.session.specs.Misuse.{number_of};
 
 use features::Features;
 use format_record::{DentV1, DentV2, StatV1, StatV2};
@@ -47,6 +48,7 @@ pub enum Phase {
 }
 
 // A name and a chunk are parts of the receive buffer, a FAIL text the beginning of the message buffer.
+// Refused and Missing have the numbers that cross to C and that the definitions speak of (specs/Calls: `refused_or`, `answer_of`).
 #[derive(Clone, Copy)]
 pub enum Answer {
     Done,
@@ -66,6 +68,33 @@ pub enum Answer {
     TooLarge,
 }
 
+// What is refused before the call or the report is looked at, by its number.
+#[derive(Clone, Copy, Debug, PartialEq, Eq)]
+pub enum Misuse {
+    // a receive buffer under 8 bytes
+    ReceiveTooShort = 1,
+    // a message buffer that is shorter than it
+    MessageTooShort = 2,
+    // other buffers than those of the opening, or other bytes lent than with the call
+    Misplaced = 3,
+    // a call is pending
+    Pending = 4,
+    // nothing is pending that the report is of
+    NothingPending = 5,
+    // the session has ended
+    Ended = 6,
+    // no bytes were read, or more than there was room for
+    BadCount = 11,
+}
+
+impl Misuse {
+    pub fn number(self) -> u8
+        ensures { result ≡ number_of self }
+    {
+        self as u8
+    }
+}
+
 // What a read, a write or the close can come to instead.
 #[derive(Clone, Copy)]
 pub enum Fault {
@@ -82,13 +111,14 @@ pub enum Pending {
         until: usize,
         lost: bool,
     },
-    // the message starts at `at` of the lent data; piece: 0 it is out whole, k its k-th piece is out
+    // the message starts at `at` of the lent data; piece: 0 it is out whole, k its k-th piece is out (as specs/Sends: `wrote_on` has it)
     Writing {
         request: Request,
         at: usize,
         piece: usize,
     },
     // quit awaits the close; failed: its write met an error, with this code
+    // (no Option: the record keeps both, also a code that no failure has: record/specs/Fields `step_numbers`, `pendings`)
     Closing {
         failed: bool,
         code: u32,
@@ -127,17 +157,10 @@ impl Session {
     pub fn at(self, buf: RecvBuf, pending: Pending) -> Session
         ensures { result ≡ at self buf pending }
     {
-        let features = self.features;
-        let ids = self.ids;
         Session {
-            capacity: self.capacity,
-            message: self.message,
             buf,
-            lent: self.lent,
-            features,
-            ids,
-            ended: self.ended,
             pending,
+            ..self
         }
     }
 
@@ -145,38 +168,17 @@ impl Session {
     pub fn begun(self, lent: usize) -> Session
         ensures { result ≡ begun self lent }
     {
-        let buf = self.buf;
-        let features = self.features;
-        let ids = self.ids;
-        let pending = self.pending;
-        Session {
-            capacity: self.capacity,
-            message: self.message,
-            buf,
-            lent,
-            features,
-            ids,
-            ended: self.ended,
-            pending,
-        }
+        Session { lent, ..self }
     }
 
     // The session after its quit.
     pub fn shut(self) -> Session
         ensures { result ≡ shut self }
     {
-        let buf = self.buf;
-        let features = self.features;
-        let ids = self.ids;
         Session {
-            capacity: self.capacity,
-            message: self.message,
-            buf,
-            lent: self.lent,
-            features,
-            ids,
             ended: true,
             pending: Pending::Idle,
+            ..self
         }
     }
 
@@ -184,10 +186,8 @@ impl Session {
     pub fn answering(self, a: Answer) -> Stepped
         ensures { result ≡ answering self a }
     {
-        let buf = self.buf;
-        let session = self.at(buf, Pending::Idle);
         Stepped {
-            session,
+            session: self.at(self.buf, Pending::Idle),
             reply: Reply::Told(a),
         }
     }
@@ -202,27 +202,23 @@ impl Session {
         }
     }
 
+    // The same, of a misuse by its number.
+    pub fn misused(self, misuse: Misuse) -> Stepped
+        ensures { result ≡ refusing self (Answer.Refused (number_of misuse)) }
+    {
+        self.refusing(Answer::Refused(misuse.number()))
+    }
+
     // Whether buffers of these lengths are not those of the opening, or no opening or step leaves such a session.
     pub fn misfit(self, rx: usize, msg: usize) -> bool
         ensures { result ≡ misfit self rx msg }
     {
-        let buf = self.buf;
-        if rx == self.capacity {
-            if msg == self.message {
-                if buf.tail < buf.head {
-                    return true;
-                }
-                if self.capacity < buf.tail {
-                    return true;
-                }
-                if self.capacity < 8 {
-                    return true;
-                }
-                return self.message < self.capacity;
-            }
-            return true;
-        }
-        true
+        rx != self.capacity
+            || msg != self.message
+            || self.buf.tail < self.buf.head
+            || self.capacity < self.buf.tail
+            || self.capacity < 8
+            || self.message < self.capacity
     }
 }
 
@@ -232,13 +228,14 @@ pub struct Stepped {
     pub reply: Reply,
 }
 
-// One turn at a phase: bytes dropped, bytes of them kept as a text, and what follows.
+// What follows a turn, and below it a hop: each goes on or is over, without an error. The definitions `followed` and `hop_out` (specs/Steps) speak of both.
 #[derive(Clone, Copy)]
 pub enum Then {
     Stop(Answer),
     Go(Phase),
 }
 
+// One turn at a phase: bytes dropped, bytes of them kept as a text, and what follows.
 #[derive(Clone, Copy)]
 pub struct Turn {
     pub drops: usize,

@@ -7,9 +7,9 @@ ghost use Rattle.session.specs.Reports.{fault_answer, push_fault, quit_fault, wr
 ghost use Rattle.session.specs.State.{st, out, answering, Fits};
 
 use request::Request;
-use session::{Answer, Fault, Pending, Phase, Session, Stepped, Want};
+use session::{Answer, Fault, Misuse, Pending, Phase, Session, Stepped, Want};
 use session_pump::read_on;
-use session_refusal::{close, report_refusal};
+use session_refusal::{check_report, close};
 use session_sender::closing;
 
 fn fault_answer(e: Fault) -> Answer
@@ -47,16 +47,15 @@ fn write_fault(s: Session, q: Request, e: Fault, rx: &mut [u8], msg: &mut [u8]) 
     ensures { out result rx.new msg.new ≡ write_fault (st s rx.old msg.old) q e }
 {
     match q {
-        Request::Stat => s.answering(fault_answer(e)),
-        Request::Sta2 => s.answering(fault_answer(e)),
-        Request::List => s.answering(fault_answer(e)),
-        Request::Lis2 => s.answering(fault_answer(e)),
-        Request::Recv => s.answering(fault_answer(e)),
-        Request::Rcv2(_) => s.answering(fault_answer(e)),
-        Request::Send(_) => push_fault(s, e, rx, msg),
-        Request::Snd2(_, _) => push_fault(s, e, rx, msg),
-        Request::Data => push_fault(s, e, rx, msg),
-        Request::Done(_) => push_fault(s, e, rx, msg),
+        Request::Stat
+        | Request::Sta2
+        | Request::List
+        | Request::Lis2
+        | Request::Recv
+        | Request::Rcv2(_) => s.answering(fault_answer(e)),
+        Request::Send(_) | Request::Snd2(..) | Request::Data | Request::Done(_) => push_fault(
+            s, e, rx, msg,
+        ),
         Request::Quit => quit_fault(s, e),
     }
 }
@@ -65,33 +64,24 @@ fn write_fault(s: Session, q: Request, e: Fault, rx: &mut [u8], msg: &mut [u8]) 
 fn read_fault(s: Session, lost: bool, e: Fault) -> Stepped
     ensures { result ≡ answering s (pick lost Answer.Closed (fault_answer e)) }
 {
-    if lost {
-        return s.answering(Answer::Closed);
-    }
-    s.answering(fault_answer(e))
+    s.answering(if lost {
+        Answer::Closed
+    } else {
+        fault_answer(e)
+    })
 }
 
 // A read, a write or the close came to a fault.
 pub fn fault(s: Session, rx: &mut [u8], msg: &mut [u8], lent: usize, e: Fault) -> Stepped
     ensures { out result rx.new msg.new ≡ report_fault (st s rx.old msg.old) lent e }
 {
-    let number = report_refusal(s, rx.len(), msg.len(), lent);
-    if 0 < number {
-        return s.refusing(Answer::Refused(number));
+    if let Err(misuse) = check_report(s, rx.len(), msg.len(), lent) {
+        return s.misused(misuse);
     }
-    let pending = s.pending;
-    match pending {
-        Pending::Reading {
-            phase: _,
-            until: _,
-            lost,
-        } => read_fault(s, lost, e),
-        Pending::Writing {
-            request,
-            at: _,
-            piece: _,
-        } => write_fault(s, request, e, rx, msg),
+    match s.pending {
+        Pending::Reading { lost, .. } => read_fault(s, lost, e),
+        Pending::Writing { request, .. } => write_fault(s, request, e, rx, msg),
         Pending::Closing { failed, code } => close(s, failed, code, fault_answer(e)),
-        Pending::Idle => s.refusing(Answer::Refused(5)),
+        Pending::Idle => s.misused(Misuse::NothingPending),
     }
 }

@@ -12,35 +12,16 @@ const DATA_MAX: usize = 65536;
 fn is_data(q: Request) -> bool
     ensures { result ≡ is_data q }
 {
-    match q {
-        Request::Stat => false,
-        Request::Sta2 => false,
-        Request::List => false,
-        Request::Lis2 => false,
-        Request::Recv => false,
-        Request::Rcv2(_) => false,
-        Request::Send(_) => false,
-        Request::Snd2(_, _) => false,
-        Request::Data => true,
-        Request::Done(_) => false,
-        Request::Quit => false,
-    }
+    matches!(q, Request::Data)
 }
 
 // The part of what is lent that a message carries: of data at most 65,536 bytes, from `from` on.
 pub fn carried(q: Request, from: usize, lent: &[u8]) -> &[u8]
     ensures { result.now ≡ carried q from lent.now }
 {
-    if is_data(q) {
-        if lent.len() < from {
-            return &lent[..0];
-        }
-        let left = lent.len() - from;
-        if left < DATA_MAX {
-            return &lent[from..];
-        }
-        let end = from + DATA_MAX;
-        return &lent[from..end];
+    if !is_data(q) {
+        return lent;
     }
-    lent
+    let rest = &lent[from.min(lent.len())..];
+    &rest[..DATA_MAX.min(rest.len())]
 }

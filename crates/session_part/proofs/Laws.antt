@@ -8,8 +8,11 @@ use lib.Dec.{leb}
 use lib.ListN.{length, take, drop}
 use Rattle.protocol.specs.Answers as P
 use Rattle.protocol.specs.Bytes.{pick}
+use Rattle.format_record.specs.declared.StatV1.{StatV1}
+use Rattle.format_record.specs.declared.StatV2.{StatV2}
 use Rattle.session.specs.Shown.{part_of, paper}
 use Rattle.session.specs.declared.Answer.{Answer}
+use Rattle.session.specs.declared.Answer.TheVariants as A
 use Rattle.session_part.specs.Part.{inside, handed}
 
 -- a part that lies in its buffer, and one that does not
@@ -51,3 +54,13 @@ part-shown P.too_large h = refl
 -- an arm of a `match` on an answer
 pub arm : {x y : Answer} {l : List ℕ} (rx msg : List ℕ) → x ≡ y → l ≡ handed (paper rx msg y) → l ≡ handed (paper rx msg x)
 arm rx msg e h = h ∙ ap (λ (a : Answer). handed (paper rx msg a)) (sym e)
+
+-- an answer that has no part
+pub no_part : (rx msg : List ℕ) (a : Answer) → ((s : StatV1) (at len : ℕ) → a ≡ A.EntryV1 s at len → ⊥) → ((s : StatV2) (at len : ℕ) → a ≡ A.EntryV2 s at len → ⊥)
+    → ((at len : ℕ) → a ≡ A.Chunk at len → ⊥) → ((len : ℕ) → a ≡ A.Fail len → ⊥) → [] ≡ handed (paper rx msg a)
+unfolding paper
+no_part rx msg (A.EntryV1 s at len) f g h k = absurd (f s at len refl)
+no_part rx msg (A.EntryV2 s at len) f g h k = absurd (g s at len refl)
+no_part rx msg (A.Chunk at len) f g h k = absurd (h at len refl)
+no_part rx msg (A.Fail len) f g h k = absurd (k len refl)
+no_part rx msg _ f g h k = refl

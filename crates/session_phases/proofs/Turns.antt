@@ -2,14 +2,13 @@
 use mathlib.Core.Bool.{Bool, true, false}
 use mathlib.Core.List.{List}
 use mathlib.Core.Path.{◌≡◌, sym, ap, ◌∙◌}
-use Prim.Native.Nat.{ℕ, ◌+◌, ◌≤◌, ◌<◌}
+use Prim.Native.Nat.{ℕ, ◌+◌, ◌≤◌}
 use native.Mathlib.Omega.{arith}
-use borrow.Author.Tests.{le-leb, lt-leb}
+use borrow.Author.Tests.{le-leb}
 use lib.ListN.{length, drop}
 use Rattle.protocol.specs.Bytes.{pick, same}
 use Rattle.protocol.specs.Ids.{Dialect, DATA, DONE, OKAY, FAIL}
 use Rattle.protocol.specs.Records.{id_at, arg_at}
-use Rattle.session.specs.declared.Answer.TheVariants as A
 use Rattle.session.specs.declared.Phase.{Phase}
 use Rattle.session.specs.declared.Phase.TheVariants.{Header, Stat, Entry, Last, NameV1, NameV2, Body, Text, Rest}
 use Rattle.session.specs.declared.Turn.{Turn}
@@ -17,7 +16,7 @@ use Rattle.session.specs.declared.Version.{Version}
 use Rattle.session.specs.declared.Version.TheVariants.{V1, V2}
 use Rattle.session.specs.declared.Want.{Want}
 use Rattle.session.specs.declared.Want.TheVariants as W
-use Rattle.session.specs.Phases.{wants, stat_size_of, entry_size_of, stopping, stat_id_of, entry_id_of, proceed, headed, drained, turn_at, turn_in}
+use Rattle.session.specs.Phases.{wants, stat_size_of, entry_size_of, stat_id_of, entry_id_of, proceed, headed, drained, turn_at, turn_in}
 
 -- a case of a function by cases is taken
 pub case : {A B : Type 0} {o : B} (f : A → B) {p q : A} → p ≡ q → o ≡ f q → o ≡ f p
@@ -31,15 +30,10 @@ pub entry-size_small : (v : Version) → entry_size_of v ≤ 76
 entry-size_small V1 = omega arith
 entry-size_small V2 = omega arith
 
--- the two cases of `turn_in`
-module _ (δ : Dialect) (c : ℕ) (p : Phase) (rx : List ℕ) (i : ℕ) where
-  pub turn_in_lem : i + wants c p ≤ length rx → turn_in δ c p rx i ≡ turn_at δ c p rx i
-  unfolding turn_in
-  turn_in_lem h = simp (le-leb _ _ h)
-
-  pub turn_out : length rx < i + wants c p → turn_in δ c p rx i ≡ stopping 0 A.TooLarge
-  unfolding turn_in
-  turn_out h = simp (lt-leb _ _ h)
+-- where the bytes are held, the turn is the phase's
+pub turn_in_lem : (δ : Dialect) (c : ℕ) (p : Phase) (rx : List ℕ) (i : ℕ) → i + wants c p ≤ length rx → turn_in δ c p rx i ≡ turn_at δ c p rx i
+unfolding turn_in
+turn_in_lem δ c p rx i h = simp (le-leb _ _ h)
 
 -- drops and keeps at most n bytes
 abbrev Within : ℕ → Turn → Type 0

@@ -17,12 +17,7 @@ use format_record::{
 use ids::Ids;
 use session::{Answer, Phase, Then, Turn, Version, Want};
 
-fn smaller(a: usize, b: usize) -> usize
-    ensures { result ≡ min a b }
-{
-    if a < b { a } else { b }
-}
-
+// A size and an id for each kind of record and version: one function of the kind would be the same four arms.
 pub fn stat_size(v: Version) -> usize
     ensures { result ≡ stat_size_of v }
 {
@@ -42,6 +37,7 @@ pub fn entry_size(v: Version) -> usize
 }
 
 // How many bytes a phase wants.
+#[tactic(auto, unfolding(session::specs::Phases::wants))]
 pub fn wants(capacity: usize, p: Phase) -> usize
     ensures value { result ≡ wants capacity p }
     ensures upper_bound { result ≤ max capacity 0x1_0000_0007 }
@@ -49,13 +45,12 @@ pub fn wants(capacity: usize, p: Phase) -> usize
     match p {
         Phase::Header(_) => HEADER_SIZE,
         Phase::Stat(v) => stat_size(v),
-        Phase::Entry(v) => entry_size(v),
-        Phase::Last(v) => entry_size(v),
-        Phase::NameV1(d) => d.namelen as usize,
-        Phase::NameV2(d) => d.namelen as usize,
+        Phase::Entry(v) | Phase::Last(v) => entry_size(v),
+        Phase::NameV1(DentV1 { namelen, .. }) | Phase::NameV2(DentV2 { namelen, .. }) =>
+            namelen as usize,
         Phase::Body(n) => HEADER_SIZE + (n as usize),
-        Phase::Text(n) => smaller(n as usize, capacity),
-        Phase::Rest { left, text: _ } => smaller(left, capacity),
+        Phase::Text(n) => (n as usize).min(capacity),
+        Phase::Rest { left, .. } => left.min(capacity),
     }
 }
 
@@ -99,7 +94,8 @@ pub fn entry_id(v: Version) -> SyncId
     }
 }
 
-// Whether the id of the header at head is this one's.
+// Whether the id of the header at head is this one's. (The buffer and a place, since the definitions of specs/Phases drop head bytes of it.)
+#[tactic(auto, using(protocol::proofs::Bytes::whole_in, crate::proofs::Ids::same_id))]
 fn is_id(ids: Ids, id: SyncId, rx: &[u8], head: usize) -> bool
     requires { head + 4 ≤ length rx.now }
     ensures { result ≡ same (id_at (drop head rx.now)) (table_of ids (id_of id)) }
@@ -112,11 +108,8 @@ fn unexpected(rx: &[u8], head: usize) -> Turn
     requires { head + 4 ≤ length rx.now }
     ensures { result ≡ strange (id_at (drop head rx.now)) }
 {
-    let a = rx[head];
-    let b = rx[head + 1];
-    let c = rx[head + 2];
-    let d = rx[head + 3];
-    stops(0, Answer::Unexpected(a, b, c, d))
+    let id = &rx[head..head + 4];
+    stops(0, Answer::Unexpected(id[0], id[1], id[2], id[3]))
 }
 
 // A header that is no FAIL.
@@ -125,40 +118,18 @@ fn proceeds(ids: Ids, w: Want, arg: u32, rx: &[u8], head: usize) -> Turn
     ensures { result ≡ proceed (dialect_of ids) w (id_at (drop head rx.now)) arg }
 {
     match w {
-        Want::Stat(v) => {
-            if is_id(ids, stat_id(v), rx, head) {
-                return goes(0, Phase::Stat(v));
-            }
-            unexpected(rx, head)
-        }
-        Want::Entry(v) => {
-            if is_id(ids, entry_id(v), rx, head) {
-                return goes(0, Phase::Entry(v));
-            }
-            if is_id(ids, SyncId::Done, rx, head) {
-                return goes(0, Phase::Last(v));
-            }
-            unexpected(rx, head)
-        }
-        Want::Chunk => {
-            if is_id(ids, SyncId::Data, rx, head) {
-                return goes(0, Phase::Body(arg));
-            }
-            if is_id(ids, SyncId::Done, rx, head) {
-                return stops(HEADER_SIZE, Answer::End);
-            }
-            unexpected(rx, head)
-        }
-        Want::Okay => {
-            if is_id(ids, SyncId::Okay, rx, head) {
-                return stops(HEADER_SIZE, Answer::Done);
-            }
-            unexpected(rx, head)
-        }
+        Want::Stat(v) if is_id(ids, stat_id(v), rx, head) => goes(0, Phase::Stat(v)),
+        Want::Entry(v) if is_id(ids, entry_id(v), rx, head) => goes(0, Phase::Entry(v)),
+        Want::Entry(v) if is_id(ids, SyncId::Done, rx, head) => goes(0, Phase::Last(v)),
+        Want::Chunk if is_id(ids, SyncId::Data, rx, head) => goes(0, Phase::Body(arg)),
+        Want::Chunk if is_id(ids, SyncId::Done, rx, head) => stops(HEADER_SIZE, Answer::End),
+        Want::Okay if is_id(ids, SyncId::Okay, rx, head) => stops(HEADER_SIZE, Answer::Done),
         Want::Nothing => stops(0, Answer::Closed),
+        _ => unexpected(rx, head),
     }
 }
 
+#[tactic(auto, using(protocol::proofs::Records::u32_field), unfolding(session::specs::Phases::headed))]
 fn header(ids: Ids, w: Want, rx: &[u8], head: usize) -> Turn
     requires { head + 8 ≤ length rx.now }
     ensures { result ≡ headed (dialect_of ids) w (id_at (drop head rx.now)) (arg_at (drop head rx.now)) }
@@ -180,11 +151,12 @@ fn stat(v: Version, rx: &[u8], head: usize) -> Turn
         Version::V1 => stops(STAT_V1_SIZE, Answer::StatV1(stat_v1_at(rx, head))),
         Version::V2 => {
             let s = stat_v2_at(rx, head);
-            let error = s.error;
-            if error == 0 {
-                return stops(STAT_V2_SIZE, Answer::StatV2(s));
-            }
-            stops(STAT_V2_SIZE, Answer::Errno(error))
+            let answer = if s.error == 0 {
+                Answer::StatV2(s)
+            } else {
+                Answer::Errno(s.error)
+            };
+            stops(STAT_V2_SIZE, answer)
         }
     }
 }
@@ -200,41 +172,27 @@ fn entry(v: Version, rx: &[u8], head: usize) -> Turn
 }
 
 // A part of a FAIL text is dropped, and its beginning kept.
+#[tactic(auto, unfolding(session::specs::Phases::drained))]
 fn drains(drops: usize, keeps: usize, left: usize, text: usize) -> Turn
     ensures { result ≡ drained drops keeps left text }
 {
-    if left == 0 {
-        return Turn {
-            drops,
-            keeps,
-            then: Then::Stop(Answer::Fail(text)),
-        };
-    }
-    Turn {
-        drops,
-        keeps,
-        then: Then::Go(Phase::Rest { left, text }),
-    }
+    let then = if left == 0 {
+        Then::Stop(Answer::Fail(text))
+    } else {
+        Then::Go(Phase::Rest { left, text })
+    };
+    Turn { drops, keeps, then }
 }
 
-// The record of the DONE that ends a listing.
-fn last(v: Version) -> Turn
-    ensures { result ≡ stopping (entry_size_of v) Answer.End }
-{
-    let size = entry_size(v);
-    stops(size, Answer::End)
-}
-
-// An entry's name, from head on.
+// An entry's name, from head on. Two functions: the answers are two constructors over two kinds of record.
 fn name_v1(d: DentV1, head: usize) -> Turn
     ensures { result ≡ stopping d.namelen (Answer.EntryV1 d.stat head d.namelen) }
 {
     let len = d.namelen as usize;
-    let stat = d.stat;
     stops(
         len,
         Answer::EntryV1 {
-            stat,
+            stat: d.stat,
             at: head,
             len,
         },
@@ -245,11 +203,10 @@ fn name_v2(d: DentV2, head: usize) -> Turn
     ensures { result ≡ stopping d.namelen (Answer.EntryV2 d.stat head d.namelen) }
 {
     let len = d.namelen as usize;
-    let stat = d.stat;
     stops(
         len,
         Answer::EntryV2 {
-            stat,
+            stat: d.stat,
             at: head,
             len,
         },
@@ -262,31 +219,34 @@ fn body(n: u32, head: usize) -> Turn
     ensures { result ≡ stopping (8 + n) (Answer.Chunk (head + 8) n) }
 {
     let len = n as usize;
-    let drops = HEADER_SIZE + len;
-    let at = head + HEADER_SIZE;
-    stops(drops, Answer::Chunk { at, len })
+    stops(
+        HEADER_SIZE + len,
+        Answer::Chunk {
+            at: head + HEADER_SIZE,
+            len,
+        },
+    )
 }
 
 // A FAIL text of n bytes, of which the buffer holds the first.
 fn text(n: u32, capacity: usize) -> Turn
     ensures { result ≡ drained (min n capacity) (min n capacity) (n - min n capacity) (min n capacity) }
 {
-    let whole = n as usize;
-    let m = smaller(whole, capacity);
-    let left = whole - m;
-    drains(m, m, left, m)
+    let n = n as usize;
+    let m = n.min(capacity);
+    drains(m, m, n - m, m)
 }
 
 // What is left of one that is longer.
 fn rest(left: usize, text: usize, capacity: usize) -> Turn
     ensures { result ≡ drained (min left capacity) 0 (left - min left capacity) text }
 {
-    let m = smaller(left, capacity);
-    let after = left - m;
-    drains(m, 0, after, text)
+    let m = left.min(capacity);
+    drains(m, 0, left - m, text)
 }
 
 // The turn at a phase whose bytes are held from head on.
+#[tactic(auto, unfolding(session::specs::Phases::turn_at, session::specs::Phases::wants))]
 fn turn(ids: Ids, capacity: usize, p: Phase, rx: &[u8], head: usize) -> Turn
     requires { head + wants capacity p ≤ length rx.now }
     ensures { result ≡ turn_at (dialect_of ids) capacity p rx.now head }
@@ -295,7 +255,8 @@ fn turn(ids: Ids, capacity: usize, p: Phase, rx: &[u8], head: usize) -> Turn
         Phase::Header(w) => header(ids, w, rx, head),
         Phase::Stat(v) => stat(v, rx, head),
         Phase::Entry(v) => entry(v, rx, head),
-        Phase::Last(v) => last(v),
+        // the record of the DONE that ends a listing
+        Phase::Last(v) => stops(entry_size(v), Answer::End),
         Phase::NameV1(d) => name_v1(d, head),
         Phase::NameV2(d) => name_v2(d, head),
         Phase::Body(n) => body(n, head),
@@ -305,16 +266,13 @@ fn turn(ids: Ids, capacity: usize, p: Phase, rx: &[u8], head: usize) -> Turn
 }
 
 // The turn at a phase; nothing where its bytes are not there.
+#[tactic(auto, unfolding(session::specs::Phases::turn_in))]
 pub fn turn_at(ids: Ids, capacity: usize, p: Phase, rx: &[u8], head: usize) -> Turn
     ensures { result ≡ turn_in (dialect_of ids) capacity p rx.now head }
 {
     let n = wants(capacity, p);
-    if rx.len() < n {
-        return stops(0, Answer::TooLarge);
+    match rx.get(head..) {
+        Some(held) if n <= held.len() => turn(ids, capacity, p, rx, head),
+        _ => stops(0, Answer::TooLarge),
     }
-    let last = rx.len() - n;
-    if last < head {
-        return stops(0, Answer::TooLarge);
-    }
-    turn(ids, capacity, p, rx, head)
 }

@@ -23,7 +23,8 @@ use Rattle.session.specs.declared.Then.{Then}
 use Rattle.session.specs.declared.Then.TheVariants.{Stop, Go}
 use Rattle.session.specs.declared.Turn.{Turn}
 use Rattle.session.proofs.Buf.{good-at, kept-length}
-use Rattle.session_phases.proofs.Turns.{turn_drops, turn_keeps}
+use Rattle.session_phases.proofs.Turns.{turn_in_lem, turn_drops, turn_keeps}
+use Rattle.recv_buf.proofs.Laws.{taken_in, compacted-head}
 
 -- the three cases of `hopped`
 module _ (s : St) (p : Phase) (lost : Bool) where
@@ -93,3 +94,10 @@ module _ (s : St) (p : Phase) (lost : Bool) (h : Hop) (rx msg : List ℕ) (e : h
     pub pump_on : (m : Session) (q : Phase) → h ≡ On m q → pumped (4 - i) s p lost ≡ pumped (4 - (i + 1)) (st m rx msg) q lost
     unfolding pumped
     pump_on m q f = rw (step, ← e, f)
+
+-- what the goals of `ask`, those of `hop` and those of `pump` come from
+pub ruleset compactions = (compacted-head)
+
+pub ruleset turns = (hopped-large, hopped-asks, hopped-turns, turn_stops, turn_goes, turn_in_lem, turn_drops, turn_keeps, taken_in)
+
+pub ruleset pumps = (on-good, pump_over, pump_on)

@@ -1,10 +1,11 @@
--- Equal parts make equal wholes: a step beside its buffers. Assumes nothing.
+-- Equal parts make equal wholes: a step beside its buffers; and a session that is guarded from buffers that it does not fit. Assumes nothing.
 use mathlib.Core.List.{List}
 use mathlib.Core.Path.{◌≡◌, ap}
 use Prim.Native.Nat.{ℕ}
 use Rattle.session.specs.declared.Session.{Session}
 use Rattle.session.specs.declared.Stepped.{Stepped}
 use Rattle.session.specs.State.{st, out, Half, half, beside}
+use Rattle.session.proofs.Misfit.{misfit-fits, guarded-in}
 
 module _ (rx : List ℕ) where
   pub half-eq : {r k : Stepped} → r ≡ k → half r rx ≡ half k rx
@@ -19,3 +20,6 @@ module _ (rx : List ℕ) where
 
 pub beside-eq : (msg : List ℕ) {h k : Half} → h ≡ k → beside h msg ≡ beside k msg
 beside-eq msg e = ap (λ (z : Half). beside z msg) e
+
+-- a session that is no misfit fits its buffers, and the guard lets its step through
+pub ruleset fitting = (misfit-fits, guarded-in)

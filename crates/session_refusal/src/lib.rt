@@ -1,52 +1,26 @@
 // Whether a report is refused, and what a reported close comes to.
 #![tactic(auto)]
 
-ghost use Rattle.std.specs.Prelude.{List, ◌≡◌, ℕ, eqb};
-ghost use Rattle.protocol.specs.Bytes.{pick};
+ghost use Rattle.std.specs.Prelude.{List, ◌≡◌, ℕ};
+ghost use Rattle.session.specs.Misuse.{refused_by};
 ghost use Rattle.session.specs.Reports.{report_refusal, closed_out};
 ghost use Rattle.session.specs.State.{st, out};
 
-use session::{Answer, Pending, Reply, Session, Stepped};
+use session::{Answer, Misuse, Pending, Reply, Session, Stepped};
 
-// A pending session: 3 another length of what is lent, 6 an ended session, 0 none.
-fn lent_refusal(s: Session, lent: usize) -> u8
-    ensures { result ≡ pick (eqb lent s.lent) (pick s.ended 6 0) 3 }
-{
-    if lent == s.lent {
-        if s.ended {
-            return 6;
-        }
-        return 0;
-    }
-    3
-}
-
-// 3 other buffers, or another length of what is lent; 6 an ended session; 5 nothing pending; 0 none.
-pub fn report_refusal(s: Session, rx: usize, msg: usize, lent: usize) -> u8
-    ensures { result ≡ report_refusal s rx msg lent }
+// Other buffers, or another length of what is lent with a pending call; then an ended session; then nothing pending.
+pub fn check_report(s: Session, rx: usize, msg: usize, lent: usize) -> Result<(), Misuse>
+    ensures { refused_by result ≡ report_refusal s rx msg lent }
 {
     if s.misfit(rx, msg) {
-        return 3;
+        return Err(Misuse::Misplaced);
     }
-    let pending = s.pending;
-    match pending {
-        Pending::Idle => {
-            if s.ended {
-                return 6;
-            }
-            5
-        }
-        Pending::Reading {
-            phase: _,
-            until: _,
-            lost: _,
-        } => lent_refusal(s, lent),
-        Pending::Writing {
-            request: _,
-            at: _,
-            piece: _,
-        } => lent_refusal(s, lent),
-        Pending::Closing { failed: _, code: _ } => lent_refusal(s, lent),
+    match s.pending {
+        Pending::Idle if s.ended => Err(Misuse::Ended),
+        Pending::Idle => Err(Misuse::NothingPending),
+        _ if lent != s.lent => Err(Misuse::Misplaced),
+        _ if s.ended => Err(Misuse::Ended),
+        _ => Ok(()),
     }
 }
 
@@ -54,15 +28,9 @@ pub fn report_refusal(s: Session, rx: usize, msg: usize, lent: usize) -> u8
 pub fn close(s: Session, failed: bool, code: u32, a: Answer) -> Stepped
     ensures { (rx msg : List ℕ) → out result rx msg ≡ closed_out (st s rx msg) failed code a }
 {
-    let session = s.shut();
-    if failed {
-        return Stepped {
-            session,
-            reply: Reply::Told(Answer::Error(code)),
-        };
-    }
+    let answer = if failed { Answer::Error(code) } else { a };
     Stepped {
-        session,
-        reply: Reply::Told(a),
+        session: s.shut(),
+        reply: Reply::Told(answer),
     }
 }

@@ -1,2 +1,2 @@
--- `Laws`: the cases of a read in the window.
+-- `Laws`: a report of what is not pending.
 pub mod Laws

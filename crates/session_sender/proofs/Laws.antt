@@ -1,6 +1,6 @@
 -- What a message carries, how long it is and how many pieces it has, and the cases of `message_out` and `wrote_on`. Assumes nothing.
 use Prim.Native.Nat.{ℕ, ◌+◌, ◌-◌, ◌≤◌, ◌<◌}
-use mathlib.Core.Bool.{Bool, true, false, true≢false}
+use mathlib.Core.Bool.{Bool, true, false}
 use mathlib.Core.List.{List, ◌++◌}
 use mathlib.Core.Path.{◌≡◌, sym, ap, ◌∙◌}
 use native.Mathlib.Decide.{dec_le}
@@ -14,8 +14,10 @@ use Rattle.ids.specs.Ids.{number_of, dialect_of}
 use Rattle.ids.specs.declared.Ids.{Ids}
 use Rattle.protocol.specs.Messages.{data_most, header, joined, message_of, bytes_of_request}
 use Rattle.protocol.specs.Messages as M
-use Rattle.protocol.proofs.Bytes.{put-out, put_length-in, put_length-out}
+use Rattle.protocol.proofs.Bytes.{put-out}
 use Rattle.request_message.proofs.Laws.{header-bytes}
+use Rattle.std.specs.Prelude.{Option, Some, None}
+use Rattle.decimal.proofs.Fitted.{fitted-in, fitted-out, some-none, some-some}
 use Rattle.request_message.specs.Composed.{only, asked, placed}
 use Rattle.request_piece.specs.Pieces.{parts_of, piece_list, piece_of}
 use Rattle.request_piece.specs.declared.Piece.{Piece}
@@ -25,6 +27,7 @@ use Rattle.recv_buf.specs.declared.RecvBuf.{RecvBuf}
 use Rattle.request.specs.Meaning.{meant}
 use Rattle.request.specs.declared.Request.{Request}
 use Rattle.request.specs.declared.Request.TheVariants as Q
+use Rattle.session.proofs.Misfit.{misfit-fits, guarded-in}
 use Rattle.session.proofs.Writes.{Split, split-own}
 use Rattle.session.specs.State.{dialect_in, St, out, Half, half, stepped, at}
 use Rattle.session.specs.Sends.{carried, is_end, id_for, send_piece, message_out, sent, resumed, wrote_on}
@@ -81,14 +84,14 @@ fewer true l = omega (arith, length-drop 1 l)
 fewer false l = omega arith
 
 -- a piece that goes out is one of the first five
-pub piece-few : (i : ℕ) (q : Request) (n k : ℕ) → is_end (piece_of i q n k) ≡ false → k < 5
+pub piece_few : (i : ℕ) (q : Request) (n k : ℕ) {p : Piece} → p ≡ piece_of i q n k → (p ≡ End → ⊥) → k < 5
 unfolding piece_of piece_list
-piece-few i q n k e = go (dec_le 5 k)
+piece_few i q n k e f = go (dec_le 5 k)
   where
     go : Dec (5 ≤ k) → k < 5
     go (yes h) =
         let l : length (piece_list i q n) ≤ k = omega (arith, parts-few i q, fewer (eqb n 0) (parts_of i q)) in
-        absurd (true≢false (ap is_end (sym (get_or-eq_default (piece_list i q n) End {n = k} l)) ∙ e))
+        absurd (f (e ∙ get_or-eq_default (piece_list i q n) End {n = k} l))
     go (no f) = lt_of_not-le f
 
 -- the k-th piece goes out
@@ -114,28 +117,30 @@ module _ (s : Session) (rx : List ℕ) (q : Request) (from : ℕ) (part b : List
   unfolding message_out
   cases = ap (λ (p : List ℕ × RecvBuf). pick (leb (p.1.tail + length m) (length p.0)) (wholly p) (first p)) e
 
-  module _ (i : ℕ) (own : i ≡ id_for s q) (x : List ℕ) (n : ℕ) (g : (x, n) ≡ placed b c.tail (bytes_of_request (only i) (meant q part))) where
-    f : (x, n) ≡ placed b c.tail m
+  module _ (i : ℕ) (own : i ≡ id_for s q) (x : List ℕ) (o : Option ℕ) (g : (x, o) ≡ placed b c.tail (bytes_of_request (only i) (meant q part))) where
+    f : (x, o) ≡ placed b c.tail m
     f = g ∙ ap (λ (j : ℕ). placed b c.tail (bytes_of_request (only j) (meant q part))) own ∙ ap (placed b c.tail) (bytes-own s.ids q part)
 
     bytes : x ≡ put b c.tail m
-    bytes = ap (λ (p : List ℕ × ℕ). p.0) f
+    bytes = ap (λ (p : List ℕ × Option ℕ). p.0) f
 
-    count : (k : ℕ) → (placed b c.tail m).1 ≡ k → n ≡ k
-    count k g = ap (λ (p : List ℕ × ℕ). p.1) f ∙ g
+    count : (k : Option ℕ) → (placed b c.tail m).1 ≡ k → o ≡ k
+    count k g = ap (λ (p : List ℕ × Option ℕ). p.1) f ∙ g
 
-    pub whole_out : (n ≡ 0 → ⊥) → half (stepped (at s c (Writing q from 0)) (WriteRx c.tail n)) x ≡ message_out s rx q from part
-    whole_out z = go (dec_le (c.tail + length m) (length b))
+    pub whole_out : (n : ℕ) → o ≡ Some n → half (stepped (at s c (Writing q from 0)) (WriteRx c.tail n)) x ≡ message_out s rx q from part
+    whole_out n z = go (dec_le (c.tail + length m) (length b))
       where
         go : Dec (c.tail + length m ≤ length b) → half (stepped (at s c (Writing q from 0)) (WriteRx c.tail n)) x ≡ message_out s rx q from part
-        go (yes h) = rw (bytes, count (length m) (put_length-in b c.tail m h)) (simp (le-leb _ _ h) at cases)
-        go (no g) = absurd (z (count 0 (put_length-out b c.tail m (lt_of_not-le g))))
+        go (yes h) =
+            let k : n ≡ length m = some-some (sym z ∙ count (Some (length m)) (fitted-in b c.tail m h)) in
+            rw (bytes, k) (simp (le-leb _ _ h) at cases)
+        go (no g) = absurd (some-none (sym z ∙ count None (fitted-out b c.tail m (lt_of_not-le g))))
 
-    pub pieces-out : n ≡ 0 → half (send_piece (at s c Idle) q from (length part) 0) x ≡ message_out s rx q from part
+    pub pieces-out : o ≡ None → half (send_piece (at s c Idle) q from (length part) 0) x ≡ message_out s rx q from part
     pieces-out z = go (dec_le (c.tail + length m) (length b))
       where
         go : Dec (c.tail + length m ≤ length b) → half (send_piece (at s c Idle) q from (length part) 0) x ≡ message_out s rx q from part
-        go (yes h) = absurd (omega (arith, z, count (length m) (put_length-in b c.tail m h), message-long s.ids (meant q part)))
+        go (yes h) = absurd (some-none (sym (count (Some (length m)) (fitted-in b c.tail m h)) ∙ z))
         go (no g) = let h = lt_of_not-le g in rw (bytes, put-out b c.tail m h) (simp (lt-leb _ _ h) at cases)
 
 -- ---- a message, or a piece of it, was accepted
@@ -159,3 +164,9 @@ module _ (s : St) (q : Request) (from k : ℕ) (lent : List ℕ) where
     pub wrote-next : is_end p ≡ false → out (piece_sent s.ses q from (length part) k p) s.rx s.msg ≡ wrote_on s q from k lent
     unfolding wrote_on
     wrote-next h = simp (ne_eqb _ _ n, sym last ∙ h) (rw (is, e))
+
+-- ---- what the goals of the code come from
+
+pub ruleset data_next = (carried-room, data_on_lem)
+
+pub ruleset accepted = (misfit-fits, guarded-in, piece_few, wrote-whole, wrote-last, wrote-next)

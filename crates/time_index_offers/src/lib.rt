@@ -26,50 +26,54 @@ const TIME_V2_AT: usize = 96;
 // The times of v1 are below.
 const V1_TIMES: u64 = 0x1_0000_0000;
 
-// What a told reply offers: an entry, its time in two's complement and its name a part of the receive buffer; nothing; no reply at all.
+// An entry that a told reply offers: its time in two's complement, and its name, a part of the receive buffer.
 #[derive(Clone, Copy)]
-pub enum Offered {
-    Entry { time: u64, at: usize, len: usize },
-    Nothing,
-    Unknown,
+pub struct Entry {
+    pub time: u64,
+    pub at: usize,
+    pub len: usize,
 }
 
+// What is no reply, or none that a session tells.
+#[derive(Clone, Copy, PartialEq, Eq)]
+pub struct NoReply;
+
 // What a reply offers; a slice under 120 bytes is no reply. The time of an entry of v1 has 32 bits and no sign.
-pub fn offered_by(told: u32, reply: &[u8], rx: &[u8]) -> Offered
+pub fn offered_by(told: u32, reply: &[u8], rx: &[u8]) -> Result<Option<Entry>, NoReply>
     ensures { (offer rx.now result ≡ offered_in told reply.now rx.now) × Inside rx.now result }
 {
     if reply.len() < REPLY {
-        return Offered::Unknown;
+        return Err(NoReply);
     }
     if told != 0 {
-        return Offered::Nothing;
+        return Ok(None);
     }
     let kind = u64_at(reply, 0);
     if kind < ENTRY {
-        return Offered::Nothing;
+        return Ok(None);
     }
     if CHUNK < kind {
-        return Offered::Unknown;
+        return Err(NoReply);
     }
     let at = u64_at(reply, START_AT) as usize;
     let len = u64_at(reply, LENGTH_AT) as usize;
     if rx.len() < len {
-        return Offered::Unknown;
+        return Err(NoReply);
     }
     let last = rx.len() - len;
     if last < at {
-        return Offered::Unknown;
+        return Err(NoReply);
     }
     if kind == CHUNK {
-        return Offered::Nothing;
+        return Ok(None);
     }
     if kind == ENTRY_V2 {
         let time = u64_at(reply, TIME_V2_AT);
-        return Offered::Entry { time, at, len };
+        return Ok(Some(Entry { time, at, len }));
     }
     let time = u64_at(reply, TIME_AT);
     if time < V1_TIMES {
-        return Offered::Entry { time, at, len };
+        return Ok(Some(Entry { time, at, len }));
     }
-    Offered::Unknown
+    Err(NoReply)
 }

@@ -26,9 +26,9 @@ use Rattle.record.proofs.Numbers.{signed_back, unsigned-wide}
 use Rattle.time_index.specs.Index.{most_entries, room_in, no_later, earlier, entry}
 use Rattle.time_index.specs.Slots.{slots_size, slot_size, mark, is_index, count_in, used_in, slot_at, time_at, start_at, ranks, up_to, below, slot_among}
 use Rattle.time_index.specs.Crossing.{misplaced, indexed, latest_of, entry_words, has_slot, offered_by, added, cross_index_add}
-use Rattle.time_index_offers.specs.Offers.{offer, offered_in}
-use Rattle.time_index_offers.specs.declared.Offered.{Offered}
-use Rattle.time_index_offers.specs.declared.Offered.TheVariants as O
+use Rattle.time_index_offers.specs.Offers.{Offered, offer, offered_in}
+use Rattle.std.specs.Prelude.{Some, Ok}
+use Rattle.time_index_offers.specs.declared.Entry.{Entry}
 use Rattle.time_index_slots.specs.Keys.{keyed, key_to}
 
 -- ---- keys
@@ -292,8 +292,8 @@ module _ (s area : List ℕ) (told : ℕ) (reply rx : List ℕ) where
         ap (added s area) (ap (offer rx) (sym f) ∙ e ∙ g) ∙ rw h
 
     -- an entry, its name lent as a part
-    pub add_part : (time at len : ℕ) → o ≡ O.Entry time at len
-        → added s area (entry (signed time) (take (at + len - at) (drop at rx))) ≡ cross_index_add s area told reply rx
-    add_part time at len f =
-        let e : at + len - at ≡ len = omega arith in
-        ap (λ (n : ℕ). added s area (entry (signed time) (take n (drop at rx)))) e ∙ add_offered (O.Entry time at len) f
+    pub add_part : (x : Entry) → o ≡ Ok (Some x)
+        → added s area (entry (signed x.time) (take (x.at + x.len - x.at) (drop x.at rx))) ≡ cross_index_add s area told reply rx
+    add_part x f =
+        let e : x.at + x.len - x.at ≡ x.len = omega arith in
+        ap (λ (n : ℕ). added s area (entry (signed x.time) (take n (drop x.at rx)))) e ∙ add_offered (Ok (Some x)) f

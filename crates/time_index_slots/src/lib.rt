@@ -12,10 +12,8 @@ ghost use Rattle.time_index_slots.specs.Keys.{keyed, key_to};
 ghost use Rattle.time_index_slots.specs.Standing.{Standing};
 
 use boundary::REPLY;
-use boundary_reply::put_two;
-use format_number::{put_bytes, put_u32, put_u64, u32_at, u64_at};
-use record_store::{put_four, unsigned};
-use time_index_offers::{Offered, offered_by};
+use format_number::{put_bytes, put_u32, put_u64, put_u64s, u32_at, u64_at};
+use time_index_offers::{NoReply, offered_by};
 
 // The length of the slots: four numbers, then the slots themselves.
 const SLOTS: usize = 65568;
@@ -44,7 +42,7 @@ const MOST_COUNT: u64 = 4096;
 
 const MOST_NAMES: usize = 65536;
 
-// The answers: lent bytes are not what they were; no slot or no room for a name.
+// The answers, by the numbers that cross to C: lent bytes are not what they were; no slot or no room for a name.
 const MISPLACED: u32 = 3;
 
 const FULL: u32 = 19;
@@ -66,10 +64,7 @@ fn key(x: u64) -> u64
 fn room_in(area: usize) -> usize
     ensures { result ≡ room_in area }
 {
-    if area < MOST_NAMES {
-        return area;
-    }
-    MOST_NAMES
+    area.min(MOST_NAMES)
 }
 
 // Whether the slots hold an index beside an area of that length.
@@ -96,10 +91,7 @@ fn is_index(slots: &[u8], area: usize) -> bool
 fn is_answered(slots: &[u8], area: usize, room: usize) -> bool
     ensures { result ≡ is_index slots.now area && leb out_size room }
 {
-    if !is_index(slots, area) {
-        return false;
-    }
-    REPLY <= room
+    is_index(slots, area) && REPLY <= room
 }
 
 // How many of the first n ranks stand up to the last whose time has at most that key.
@@ -107,13 +99,10 @@ fn ranks_to(slots: &[u8], n: usize, most: u64) -> usize
     requires { (length slots.now ≡ slots_size) × (n ≤ most_entries) }
     ensures { (result ≡ ranks (key_to most) slots.now n) × (result ≤ n) }
 {
-    let mut left = n;
-    while 0 < left {
-        let at = HEAD + SLOT * (left - 1);
-        if key(u64_at(slots, at)) <= most {
-            return left;
+    for i in (0..n).rev() {
+        if key(u64_at(slots, HEAD + SLOT * i)) <= most {
+            return i + 1;
         }
-        left -= 1;
     }
     0
 }
@@ -134,10 +123,7 @@ fn ranks_below(slots: &[u8], n: usize, time: u64) -> usize
 fn ranks_from(first: usize, end: usize) -> usize
     ensures { result ≡ end - first }
 {
-    if end < first {
-        return 0;
-    }
-    end - first
+    end.saturating_sub(first)
 }
 
 // The bytes from `from` to `to`, one slot further.
@@ -145,22 +131,9 @@ fn make_room(slots: &mut [u8], from: usize, to: usize)
     requires { (from ≤ to) × (to + slot_size ≤ length slots.old) }
     ensures { slots.new ≡ over slots.old (from + slot_size) (take (to - from) (drop from slots.old)) }
 {
-    let mut at = to;
-    while from < at {
-        at -= 1;
+    for at in (from..to).rev() {
         slots[at + SLOT] = slots[at];
     }
-}
-
-// Five numbers at the front; nothing where they do not fit.
-fn put_five(out: &mut [u8], a: u64, b: u64, c: u64, d: u64, e: u64)
-    ensures { out.new ≡ put out.old 0 (words (a ∷ b ∷ c ∷ d ∷ e ∷ [])) }
-{
-    if out.len() < 40 {
-        return;
-    }
-    put_four(out, 0, a, b, c, d);
-    put_u64(out, 32, e);
 }
 
 // A slot's sixteen bytes at `at`.
@@ -213,7 +186,7 @@ pub fn index_open(slots: &mut [u8], area: usize) -> u32
     if slots.len() != SLOTS {
         return MISPLACED;
     }
-    put_four(slots, 0, MARK, area as u64, 0, 0);
+    put_u64s(slots, 0, [MARK, area as u64, 0, 0]);
     0
 }
 
@@ -224,14 +197,13 @@ pub fn index_add(slots: &mut [u8], area: &mut [u8], told: u32, reply: &[u8], rx:
     if !is_answered(slots, area.len(), reply.len()) {
         return MISPLACED;
     }
-    let o = offered_by(told, reply, rx);
-    match o {
-        Offered::Nothing => 0,
-        Offered::Unknown => MISPLACED,
-        Offered::Entry { time, at, len } => {
-            let end = at + len;
-            take_entry(slots, area, time, &rx[at..end])
+    match offered_by(told, reply, rx) {
+        Ok(Some(e)) => {
+            let end = e.at + e.len;
+            take_entry(slots, area, e.time, &rx[e.at..end])
         }
+        Ok(None) => 0,
+        Err(NoReply) => MISPLACED,
     }
 }
 
@@ -243,10 +215,10 @@ pub fn index_between(slots: &[u8], area: usize, from: i64, to: i64, out: &mut [u
         return MISPLACED;
     }
     let n = u64_at(slots, COUNT_AT) as usize;
-    let first = ranks_below(slots, n, unsigned(from));
-    let end = ranks_to(slots, n, key(unsigned(to)));
+    let first = ranks_below(slots, n, from.cast_unsigned());
+    let end = ranks_to(slots, n, key(to.cast_unsigned()));
     let count = ranks_from(first, end);
-    put_two(out, count as u64, first as u64);
+    put_u64s(out, 0, [count as u64, first as u64]);
     0
 }
 
@@ -258,14 +230,14 @@ pub fn index_latest(slots: &[u8], area: usize, time: i64, out: &mut [u8]) -> u32
         return MISPLACED;
     }
     let n = u64_at(slots, COUNT_AT) as usize;
-    let end = ranks_to(slots, n, key(unsigned(time)));
+    let end = ranks_to(slots, n, key(time.cast_unsigned()));
     if end == 0 {
-        put_two(out, 0, 0);
+        put_u64s(out, 0, [0, 0]);
         return 0;
     }
     let last = HEAD + SLOT * (end - 1);
     let first = ranks_below(slots, n, u64_at(slots, last));
-    put_two(out, 1, first as u64);
+    put_u64s(out, 0, [1, first as u64]);
     0
 }
 
@@ -278,7 +250,7 @@ pub fn index_entry(slots: &[u8], area: usize, rank: usize, out: &mut [u8]) -> u3
     }
     let n = u64_at(slots, COUNT_AT) as usize;
     if n <= rank {
-        put_five(out, 0, 0, 0, 0, 0);
+        put_u64s(out, 0, [0, 0, 0, 0, 0]);
         return 0;
     }
     let at = HEAD + SLOT * rank;
@@ -289,6 +261,10 @@ pub fn index_entry(slots: &[u8], area: usize, rank: usize, out: &mut [u8]) -> u3
     if u64_at(slots, USED_AT) < end {
         return MISPLACED;
     }
-    put_five(out, 1, start, len, last % MOST_COUNT, u64_at(slots, at));
+    put_u64s(
+        out,
+        0,
+        [1, start, len, last % MOST_COUNT, u64_at(slots, at)],
+    );
     0
 }

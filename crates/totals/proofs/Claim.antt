@@ -19,8 +19,8 @@ use Rattle.protocol.proofs.Bodies.{pick-cases}
 use Rattle.protocol.proofs.Bytes.{put-length}
 use Rattle.protocol.proofs.Words.{bytes_take}
 use Rattle.id_table.specs.Settings.{lent_in}
-use Rattle.id_table.specs.declared.Lent.{Lent}
-use Rattle.id_table.specs.declared.Lent.TheVariants as L
+use Rattle.id_table.specs.Lent.{Lent}
+use Rattle.id_table.specs.Lent as L
 use Rattle.record.specs.Record.{word_of, size}
 use Rattle.record.proofs.Words.{length-words}
 use Rattle.session.specs.Calls.{open_refusal}

@@ -12,8 +12,8 @@ use Rattle.protocol.specs.Bytes.{number_at}
 use Rattle.protocol.specs.Features as P
 use Rattle.protocol.proofs.Bodies.{pick-cases}
 use Rattle.id_table.specs.Settings.{lent_in}
-use Rattle.id_table.specs.declared.Lent.{Lent}
-use Rattle.id_table.specs.declared.Lent.TheVariants as L
+use Rattle.id_table.specs.Lent.{Lent}
+use Rattle.id_table.specs.Lent as L
 use Rattle.record.specs.Fields.{fields}
 use Rattle.record.specs.Narrow.{Narrow}
 use Rattle.record.specs.Record.{stored, word_of, size}

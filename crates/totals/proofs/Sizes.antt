@@ -13,8 +13,8 @@ use Rattle.protocol.specs.Features as P
 use Rattle.protocol.proofs.Bodies.{pick-cases}
 use Rattle.protocol.proofs.Bytes.{put-length}
 use Rattle.id_table.specs.Settings.{lent_in}
-use Rattle.id_table.specs.declared.Lent.{Lent}
-use Rattle.id_table.specs.declared.Lent.TheVariants as L
+use Rattle.id_table.specs.Lent.{Lent}
+use Rattle.id_table.specs.Lent as L
 use Rattle.record.specs.Record.{stored, size}
 use Rattle.record.proofs.Stored.{stored-length}
 use Rattle.session.specs.Calls.{fresh, open_refusal}

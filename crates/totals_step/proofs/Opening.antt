@@ -7,8 +7,8 @@ use Rattle.boundary.specs.Crossing.{OpenCrossed, opened_with, cross_open}
 use Rattle.boundary_misuse.proofs.Misuse.{lent-some}
 use Rattle.boundary_step.specs.Opened.{open_crossed}
 use Rattle.id_table.specs.Settings.{lent_in}
-use Rattle.id_table.specs.declared.Lent.{Lent}
-use Rattle.id_table.specs.declared.Lent.TheVariants as L
+use Rattle.id_table.specs.Lent.{Lent}
+use Rattle.id_table.specs.Lent as L
 use Rattle.record.specs.Record.{size, word_of, stored}
 use Rattle.record.specs.Fields.{fields}
 use Rattle.session.specs.Calls.{open_refusal}

@@ -11,11 +11,9 @@ ghost use Rattle.totals_taken.specs.Taken.{takes_read, takes_wrote};
 ghost use Rattle.totals_step.specs.Settled.{asked_by, room_for, Stands, consumed_in, finished_by};
 
 use boundary::REPLY;
-use boundary_reply::put_three;
 use boundary_step::{session_fault, session_open, session_read, session_start, session_wrote};
-use format_number::{put_u64, u64_at};
+use format_number::{put_u64, put_u64s, u64_at};
 use record::SIZE;
-use record_store::put_four;
 use std::num::{wrapping_add_u64, wrapping_sub_u64};
 use totals_taken::{takes_read, takes_wrote};
 
@@ -41,13 +39,11 @@ const HEAD: usize = 16;
 
 const TAIL: usize = 24;
 
-// What is returned for answer 3, to a record of another length, and for 21, to a total that would pass the largest.
+// What is returned for answer 3, to a record of another length, and for 21, to a total that would pass the largest: the numbers that cross to C, which also
+// lends each slice by itself.
 const AWAY: u32 = 768;
 
 const OVER: u32 = 5376;
-
-// The largest total.
-const MOST: u64 = 18446744073709551615;
 
 // A reply's kind where an answer is none of the others.
 const OTHER: u64 = 7;
@@ -71,25 +67,19 @@ fn refuses(n: u32) -> bool
     ensures { result ≡ refuses n }
 {
     let k = n / ANSWER;
-    if k == 0 {
-        return false;
-    }
-    k < REFUSALS
+    0 < k && k < REFUSALS
 }
 
-// The length of the piece that is asked to be written; 0 for a close.
+// The length of the piece that is asked to be written; a close has 0 bytes, as `asked_by` has it.
 fn piece_len(n: u32, out: &[u8]) -> u64
     requires { (out_size ≤ length out.now) × (2 ≤ n % 256) × Stands n out.now }
     ensures { result ≡ asked_by n out.now 0 }
 {
-    let what = n % ANSWER;
-    if what < WRITES_BYTES {
-        return u64_at(out, WORD);
+    match n % ANSWER {
+        WRITES..WRITES_BYTES => u64_at(out, WORD),
+        WRITES_BYTES => u64_at(out, 0),
+        _ => 0,
     }
-    if what == WRITES_BYTES {
-        return u64_at(out, 0);
-    }
-    0
 }
 
 // Puts the bytes consumed: those received, as they stand, less what the session holds.
@@ -125,10 +115,8 @@ fn finish(rec: &mut [u8], n: u32, reads: u64, out: &mut [u8])
 fn put_count(n: u32, k: u64, out: &mut [u8])
     ensures { out.new ≡ counted n k out.old }
 {
-    let what = n % ANSWER;
-    if what == 0 {
+    if n % ANSWER == 0 {
         put_u64(out, COUNT, k);
-        return;
     }
 }
 
@@ -144,10 +132,7 @@ pub fn refused(n: u32, out: &mut [u8]) -> u32
 fn passes(before: u64, count: u64, reads: u64) -> bool
     ensures { result ≡ (nat_le limit (before + count) || nat_le limit (reads + 1)) }
 {
-    if wrapping_add_u64(before, count) < before {
-        return true;
-    }
-    reads == MOST
+    before.checked_add(count).is_none() || reads == u64::MAX
 }
 
 // Whether a read that the session would take, with such a slice for its reply, brings the bytes received or the reads past the largest total.
@@ -164,13 +149,9 @@ fn over_read(
     requires { length rec.now ≡ record_size }
     ensures { result ≡ ((nat_le limit (before + count) || nat_le limit (reads + 1)) && room_for out (takes_read (loaded (take size rec.now)) rx msg lent count)) }
 {
-    if passes(before, count as u64, reads) {
-        if takes_read(&rec[..SIZE], rx, msg, lent, count) {
-            return REPLY <= out;
-        }
-        return false;
-    }
-    false
+    passes(before, count as u64, reads)
+        && takes_read(&rec[..SIZE], rx, msg, lent, count)
+        && REPLY <= out
 }
 
 // The same of a piece of that length that is out, and the bytes written.
@@ -186,13 +167,7 @@ fn over_wrote(
     requires { length rec.now ≡ record_size }
     ensures { result ≡ (nat_le limit (before + asked) && room_for out (takes_wrote (loaded (take size rec.now)) rx msg lent)) }
 {
-    if before <= wrapping_add_u64(before, asked) {
-        return false;
-    }
-    if takes_wrote(&rec[..SIZE], rx, msg, lent) {
-        return REPLY <= out;
-    }
-    false
+    before.checked_add(asked).is_none() && takes_wrote(&rec[..SIZE], rx, msg, lent) && REPLY <= out
 }
 
 // Opens a session in the front of the record, with all totals 0, and answers as its opening does, which is lent nothing of a record of another
@@ -205,7 +180,7 @@ pub fn total_open(rec: &mut [u8], settings: &[u8], banner: &[u8], rx: usize, msg
     }
     let n = session_open(&mut rec[..SIZE], settings, banner, rx, msg);
     if n == 0 {
-        put_four(rec, RECEIVED, 0, 0, 0, 0);
+        put_u64s(rec, RECEIVED, [0, 0, 0, 0]);
         put_u64(rec, READS, 0);
         return 0;
     }
@@ -263,7 +238,7 @@ pub fn total_read(
         count,
         out.len(),
     ) {
-        put_three(out, OTHER, 0, 0);
+        put_u64s(out, 0, [OTHER, 0, 0]);
         return refused(OVER, out);
     }
     let n = session_read(&mut rec[..SIZE], rx, msg, lent, count, out);
@@ -301,7 +276,7 @@ pub fn total_wrote(
         lent.len(),
         out.len(),
     ) {
-        put_three(out, OTHER, 0, 0);
+        put_u64s(out, 0, [OTHER, 0, 0]);
         return refused(OVER, out);
     }
     let n = session_wrote(&mut rec[..SIZE], rx, msg, lent, out);

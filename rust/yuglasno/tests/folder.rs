@@ -7,6 +7,8 @@ use common::program::{folder, names, told, PANEL};
 use std::fs::{self, File, Permissions};
 use std::os::unix::fs::{symlink, MetadataExt, PermissionsExt};
 use std::path::Path;
+use std::thread::sleep;
+use std::time::Duration;
 
 /// What is told of a DIR in the panel's place.
 fn from(dir: &Path, words: &[&str]) -> (i32, String, String) {
@@ -276,7 +278,15 @@ fn while_an_archive_is_written() {
     let (status, _, error) = from(&dir, &["ls", "/"]);
     assert_eq!((status, error), (73, format!("transfer: 73: {}: another run is at work on it\n", dir.display())));
     drop(opened);
-    assert_eq!(from(&dir, &["ls", "/"]).0, 0);
+    // another test's program, between its fork and its exec, holds the lock for a moment longer
+    let freed = (0..100).any(|_| {
+        let answered = from(&dir, &["ls", "/"]).0 == 0;
+        if !answered {
+            sleep(Duration::from_millis(20));
+        }
+        answered
+    });
+    assert!(freed);
 }
 
 #[test]

@@ -7,19 +7,19 @@ use Rattle.boundary_reply.proofs.tell.Goals as goal
 
 pub returns-in-Told : goal.returns-in-Told
 unfolding reply_number reply_bytes
-returns-in-Told c = reply-of _ _ c.in-Told.is c.put_answer.ensures (ap (λ (n : ℕ). 256 * n) c.number-n.ensures)
+returns-in-Told c = reply-of _ _ c.in-Told.is c.put_answer.ensures (ap (λ (n : ℕ). 256 * n) c.number.ensures)
 
 pub returns-in-Read : goal.returns-in-Read
 unfolding reply_number reply_bytes
-returns-in-Read c = reply-of _ _ c.in-Read.is c.put_two.ensures refl
+returns-in-Read c = reply-of _ _ c.in-Read.is c.put_u64s.ensures refl
 
 pub returns-in-WriteRx : goal.returns-in-WriteRx
 unfolding reply_number reply_bytes
-returns-in-WriteRx c = reply-of _ _ c.in-WriteRx.is c.put_two-in-WriteRx.ensures refl
+returns-in-WriteRx c = reply-of _ _ c.in-WriteRx.is c.put_u64s-in-WriteRx.ensures refl
 
 pub returns-in-WriteLent : goal.returns-in-WriteLent
 unfolding reply_number reply_bytes
-returns-in-WriteLent c = reply-of _ _ c.in-WriteLent.is c.put_two-in-WriteLent.ensures refl
+returns-in-WriteLent c = reply-of _ _ c.in-WriteLent.is c.put_u64s-in-WriteLent.ensures refl
 
 pub returns-in-WriteBytes : goal.returns-in-WriteBytes
 unfolding reply_number reply_bytes

@@ -1,21 +1,12 @@
--- Answers to goals of `decimal::digit_count`.
+-- `decimal::digit_count` meets its contract.
+use mathlib.Core.Path.{sym}
 use native.Mathlib.Omega.{arith}
-use borrow.Author.Rules.{rules}
-use Rattle.protocol.proofs.Decimal.{decimal-length}
-use Rattle.protocol.proofs.Digits.{length-small, length-step}
+use Rattle.protocol.proofs.Digits.{length-small}
+use Rattle.decimal.proofs.Laws.{length-power}
 use Rattle.decimal.proofs.digit_count.Goals as goal
 
-pub loop-m-init : goal.loop-m-init
-loop-m-init c = omega arith
+pub returns-in-Some : goal.returns-in-Some
+returns-in-Some c = sym (length-power c.in-Some.k c.args.n c.in-Some.ensures.power_le c.in-Some.ensures.next_power_gt)
 
-pub overflow_add-count : goal.overflow_add-count
-overflow_add-count c = omega (arith, decimal-length c.args.n (omega arith))
-
-pub loop-m-smaller : goal.loop-m-smaller
-loop-m-smaller c = search rules
-
-pub loop-m-preserved : goal.loop-m-preserved
-loop-m-preserved c = omega (arith, length-step 10 (omega arith) c.loop-m.m c.loop-m-test.true)
-
-pub returns : goal.returns
-returns c = omega (arith, length-small 10 (omega arith) c.loop-m.m (omega arith))
+pub returns-in-None : goal.returns-in-None
+returns-in-None c = let z = c.in-None.ensures.none in sym (length-small 10 (omega arith) c.args.n (omega arith))

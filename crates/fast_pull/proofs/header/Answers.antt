@@ -2,7 +2,6 @@
 use mathlib.Core.Path.{◌≡◌, sym, ◌∙◌}
 use Prim.Native.Nat.{◌≤◌}
 use native.Mathlib.Omega.{arith}
-use borrow.Author.Tests.{eq-eqb, ne_eqb}
 use lib.ListN.{length}
 use Rattle.boundary.specs.Told.{out_size}
 use Rattle.fast_replies.proofs.Taken.{not-tried}
@@ -30,14 +29,7 @@ returns-then-fits c =
     let (h, l, o) = let_in (goal.at.returns-then-fits c).Then-fits in
     header-tried s.rec.now s.rx.now s.msg.now s.lent.now s.out.now h o l (omega arith) s.count _ _ _ c.await_body.ensures
 
-pub returns-then-number-eq-CHUNK_HEADER : goal.returns-then-number-eq-CHUNK_HEADER
-returns-then-number-eq-CHUNK_HEADER c =
-    let s = c.args in
-    not-tried (header_now s.rec.now s.rx.now s.msg.now s.lent.now s.count s.out.now) _ _
-    (rw (eq-eqb (number_in s.rec.now 7) 17 (omega arith), sym c.fits.ensures ∙ c.if-fits.false))
-
 pub returns : goal.returns
 returns c =
     let s = c.args in
-    not-tried (header_now s.rec.now s.rx.now s.msg.now s.lent.now s.count s.out.now) _ _
-    (rw (ne_eqb (number_in s.rec.now 7) 17 (λ e. c.if-number-eq-CHUNK_HEADER.false (c.number.ensures ∙ e))))
+    not-tried (header_now s.rec.now s.rx.now s.msg.now s.lent.now s.count s.out.now) _ _ (grind arith)

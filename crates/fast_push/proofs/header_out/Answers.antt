@@ -17,7 +17,8 @@ returns-then-accepted c =
     let s = c.args in
     header-tried s.rec.now s.rx.now s.msg.now s.lent.now s.out.now (sym c.accepted.ensures ∙ c.if-accepted.true) _ _ _ c.put_header.ensures
 
-pub returns : goal.returns
-returns c =
+pub returns-else-accepted : goal.returns-else-accepted
+returns-else-accepted c =
     let s = c.args in
-    not-tried (header_now s.rec.now s.rx.now s.msg.now s.lent.now s.out.now) _ _ (rw (sym c.accepted.ensures ∙ c.if-accepted.false))
+    rw c.if-accepted.false
+    (not-tried (header_now s.rec.now s.rx.now s.msg.now s.lent.now s.out.now) _ _ (rw (sym c.accepted.ensures ∙ c.if-accepted.false)))

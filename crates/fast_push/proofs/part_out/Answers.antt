@@ -16,7 +16,8 @@ returns-then-accepted c =
     let s = c.args in
     part-tried s.rec.now s.rx.now s.msg.now s.lent.now s.out.now (sym c.accepted.ensures ∙ c.if-accepted.true) _ _ _ c.put_part.ensures
 
-pub returns : goal.returns
-returns c =
+pub returns-else-accepted : goal.returns-else-accepted
+returns-else-accepted c =
     let s = c.args in
-    not-tried (part_now s.rec.now s.rx.now s.msg.now s.lent.now s.out.now) _ _ (rw (sym c.accepted.ensures ∙ c.if-accepted.false))
+    rw c.if-accepted.false
+    (not-tried (part_now s.rec.now s.rx.now s.msg.now s.lent.now s.out.now) _ _ (rw (sym c.accepted.ensures ∙ c.if-accepted.false)))

@@ -1,7 +1,7 @@
 -- `fast_push::put_header` meets its contract.
 use mathlib.Core.Path.{refl, sym, ap, ◌∙◌}
 use native.Mathlib.Omega.{arith}
-use borrow.Author.Tests.{eq-eqb, ne_eqb, lt-ltb, le-ltb}
+use borrow.Author.Tests.{eq-eqb, lt-ltb}
 use lib.ListN.{length}
 use Rattle.boundary.specs.Told.{reply_bytes}
 use Rattle.fast_replies.proofs.Taken.{done-out, done-in}
@@ -13,34 +13,27 @@ use Rattle.request.specs.declared.Request.TheVariants as Q
 use Rattle.session.specs.declared.Reply.TheVariants as R
 use Rattle.fast_push.proofs.put_header.Goals as goal
 
+pub returns-then-number-ne0 : goal.returns-then-number-ne0
+returns-then-number-ne0 c =
+    let a = c.args in
+    let rec = a.rec.now in
+    done-out (header_goes rec a.rx.now a.lent.now) rec _ _ _ _ _ a.out.now (grind arith)
+
 pub returns-then-n-eq0 : goal.returns-then-n-eq0
 returns-then-n-eq0 c =
     let a = c.args in
     let rec = a.rec.now in
     let n = ap length (read_at_lem a.lent.now c.carried-part.ensures c.next-from.ensures) in
-    done-out (header_goes rec a.rx.now a.lent.now) rec _ _ _ _ _ a.out.now
-    (rw (eq-eqb (number_in rec 2) 0 (omega arith), le-ltb 0 (length (next_part rec a.lent.now)) (omega (arith, n, c.if-n-eq0.true))))
+    done-out (header_goes rec a.rx.now a.lent.now) rec _ _ _ _ _ a.out.now (grind (arith, n))
 
 pub has_room-requires : goal.has_room-requires
 has_room-requires c =
     let a = c.args in
     (c.requires.1, rw (read_at_lem a.lent.now c.carried-part.ensures c.next-from.ensures) (at_most _ a.lent.now))
 
-pub returns-then-has_room : goal.returns-then-has_room
-returns-then-has_room c =
-    let a = c.args in
-    let rec = a.rec.now in
-    let n = ap length (read_at_lem a.lent.now c.carried-part.ensures c.next-from.ensures) in
-    done-out (header_goes rec a.rx.now a.lent.now) rec _ _ _ _ _ a.out.now
-    (rw (
-      eq-eqb (number_in rec 2) 0 (omega arith),
-      lt-ltb 0 (length (next_part rec a.lent.now)) (omega (arith, n, c.if-n-eq0.false)),
-      ap (λ k. has_room rec (length a.rx.now) k) (sym n) ∙ sym c.has_room.ensures ∙ c.if-has_room.true,
-    ))
-
-pub returns-then-number-eq0 : goal.returns-then-number-eq0
+pub returns : goal.returns
 unfolding reply_bytes
-returns-then-number-eq0 c =
+returns c =
     let a = c.args in
     let rec = a.rec.now in
     let n = ap length (read_at_lem a.lent.now c.carried-part.ensures c.next-from.ensures) in
@@ -52,9 +45,3 @@ returns-then-number-eq0 c =
       ap (λ k. has_room rec (length a.rx.now) k) (sym n) ∙ sym c.has_room.ensures ∙ c.if-has_room.false,
     ))
     c.requires.0 refl refl refl (c.store_push.ensures ∙ rw c.next-from.ensures) (c.put_header_piece.ensures ∙ rw (c.id_in-id.ensures, n))
-
-pub returns : goal.returns
-returns c =
-    let a = c.args in
-    let rec = a.rec.now in
-    done-out (header_goes rec a.rx.now a.lent.now) rec _ _ _ _ _ a.out.now (rw (ne_eqb (number_in rec 2) 0 (λ e. c.if-number-eq0.false (c.number.ensures ∙ e))))

@@ -27,4 +27,4 @@ returns c =
     let n = ap length (read_at_lem a.lent.now c.carried-part.ensures f) in
     done-in (ltb 0 (length (part_in rec a.lent.now))) rec (number_in rec 2) (number_in rec 3) (number_in rec 4) (push_step (number_in rec 10) 2)
     (R.WriteLent (number_in rec 10) (length (part_in rec a.lent.now))) a.out.now _ _ _ _ _ (lt-ltb 0 (length (part_in rec a.lent.now)) (omega (arith, n, c.if-n-eq0.false))) c.requires refl refl refl
-    (c.store_push.ensures ∙ rw f) (c.put_two.ensures ∙ rw (f, n))
+    (c.store_push.ensures ∙ rw f) (c.put_u64s.ensures ∙ rw (f, n))

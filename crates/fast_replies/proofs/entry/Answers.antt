@@ -2,7 +2,6 @@
 use mathlib.Core.Path.{◌≡◌, sym, ap, ◌∙◌}
 use Prim.Native.Nat.{◌≤◌}
 use native.Mathlib.Omega.{arith}
-use borrow.Author.Tests.{le-leb, lt-leb}
 use lib.ListN.{length}
 use Rattle.boundary.specs.Told.{out_size}
 use Rattle.session.specs.declared.Version.{Version}
@@ -22,17 +21,6 @@ let_in c =
     let a = c.args in
     idle-true a.rec.now (length a.rx.now) (length a.msg.now) (length a.out.now) (sym c.is_idle.ensures ∙ c.if-is_idle.true)
 
-pub returns-then-call-lt12 : goal.returns-then-call-lt12
-returns-then-call-lt12 c a b =
-    let s = c.args in
-    not-tried (entry_now s.rec.now s.rx.now s.msg.now s.call s.out.now) _ _ (rw (lt-leb 12 s.call c.if-call-lt12.true))
-
-pub returns-then-call-gt13 : goal.returns-then-call-gt13
-returns-then-call-gt13 c a b =
-    let s = c.args in
-    not-tried (entry_now s.rec.now s.rx.now s.msg.now s.call s.out.now) _ _
-    (rw (le-leb 12 s.call c.if-call-lt12.false, lt-leb s.call 13 c.if-call-gt13.true))
-
 pub entry_at-requires : goal.entry_at-requires
 entry_at-requires c = let h = (let_in (goal.at.entry_at-requires c).Then-is_idle).1 in (h.sized, h.order, omega (arith, h))
 
@@ -40,12 +28,11 @@ pub returns-then-is_idle : goal.returns-then-is_idle
 returns-then-is_idle c a b =
     let s = c.args in
     let (i, h, o) = let_in (goal.at.returns-then-is_idle c).Then-is_idle in
-    entry-tried s.rec.now s.rx.now s.msg.now s.lent.now s.out.now h o i s.call a b c.if-call-lt12.false c.if-call-gt13.false _ _ _
+    entry-tried s.rec.now s.rx.now s.msg.now s.lent.now s.out.now h o i s.call a b c.if-call-ge12.true c.if-call-le13.true _ _ _
     (c.entry_at.ensures
     ∙ ap (λ (v : Version). entry_done s.rec.now s.rx.now (length s.lent.now) v s.out.now) c.version.ensures)
 
 pub returns : goal.returns
 returns c a b =
     let s = c.args in
-    not-tried (entry_now s.rec.now s.rx.now s.msg.now s.call s.out.now) _ _
-    (rw (le-leb 12 s.call c.if-call-lt12.false, le-leb s.call 13 c.if-call-gt13.false, sym c.is_idle.ensures ∙ c.if-is_idle.false))
+    not-tried (entry_now s.rec.now s.rx.now s.msg.now s.call s.out.now) _ _ (grind arith)

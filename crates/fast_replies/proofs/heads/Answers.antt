@@ -41,16 +41,17 @@ returns-then-x-lt-HEADER_SIZE c = let a = c.args in short (dialect_held a.rec.no
 pub returns-then-n-id_in : goal.returns-then-n-id_in
 returns-then-n-id_in c =
     let a = c.args in
-    fail (dialect_held a.rec.now) (bytes_of 4 a.id) a.x.now (omega arith)
-    (sym (spells a.x.now c.u32_at-n.result c.id_in.result (omega arith) (λ k. (c.type_inv.x k).fits) (omega arith) c.u32_at-n.ensures c.id_in.ensures)
-    ∙ eq-eqb _ _ c.if-n-id_in.true)
-
-pub returns : goal.returns
-returns c =
-    let a = c.args in
     let n = c.u32_at-n in
     let bytes : Bytes a.x.now = λ k. (c.type_inv.x k).fits in
     spells a.x.now n.result a.id (omega arith) bytes (omega arith) n.ensures refl
     ∙ other (dialect_held a.rec.now) (bytes_of 4 a.id) a.x.now (omega arith)
     (sym (spells a.x.now n.result c.id_in.result (omega arith) bytes (omega arith) n.ensures c.id_in.ensures)
-    ∙ ne_eqb _ _ c.if-n-id_in.false)
+    ∙ ne_eqb _ _ c.if-n-id_in.true)
+
+pub returns-else-n-id_in : goal.returns-else-n-id_in
+returns-else-n-id_in c =
+    let a = c.args in
+    let same : eqb c.u32_at-n.result c.id_in.result ≡ true = eq-eqb _ _ c.if-n-id_in.false in
+    rw same
+    (fail (dialect_held a.rec.now) (bytes_of 4 a.id) a.x.now (omega arith)
+    (sym (spells a.x.now c.u32_at-n.result c.id_in.result (omega arith) (λ k. (c.type_inv.x k).fits) (omega arith) c.u32_at-n.ensures c.id_in.ensures) ∙ same))

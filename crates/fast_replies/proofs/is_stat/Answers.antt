@@ -25,7 +25,8 @@ returns-then-heads c =
     let a = c.args in
     c.errorless.ensures ∙ stat-fine (dialect_held a.rec.now) a.v a.x.now (omega arith) (sym (tests (goal.at.returns-then-heads c).After-heads) ∙ c.if-heads.true)
 
-pub returns : goal.returns
-returns c =
+pub returns-else-heads : goal.returns-else-heads
+returns-else-heads c =
     let a = c.args in
-    stat-other (dialect_held a.rec.now) a.v a.x.now (omega arith) (sym (tests (goal.at.returns c).After-heads) ∙ c.if-heads.false)
+    let no = c.if-heads.false in
+    no ∙ stat-other (dialect_held a.rec.now) a.v a.x.now (omega arith) (sym (tests (goal.at.returns-else-heads c).After-heads) ∙ no)

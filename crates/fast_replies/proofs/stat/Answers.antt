@@ -2,7 +2,6 @@
 use mathlib.Core.Path.{◌≡◌, sym, ap, ◌∙◌}
 use Prim.Native.Nat.{◌≤◌}
 use native.Mathlib.Omega.{arith}
-use borrow.Author.Tests.{le-leb, lt-leb}
 use lib.ListN.{length}
 use Rattle.boundary.specs.Told.{out_size}
 use Rattle.fast_record.specs.Standing.{number_in, Stands}
@@ -22,17 +21,6 @@ let_in c =
     let a = c.args in
     fits-true a.rec.now (length a.rx.now) (length a.msg.now) (length a.lent.now) (length a.out.now) (sym c.fits.ensures ∙ c.if-fits.true)
 
-pub returns-then-state-lt-STAT_HEADER : goal.returns-then-state-lt-STAT_HEADER
-returns-then-state-lt-STAT_HEADER c =
-    let s = c.args in
-    not-tried (stat_now s.rec.now s.rx.now s.msg.now s.lent.now s.count s.out.now) _ _ (rw (lt-leb 13 (number_in s.rec.now 7) (omega arith)))
-
-pub returns-then-state-gt-STAT_V2_HEADER : goal.returns-then-state-gt-STAT_V2_HEADER
-returns-then-state-gt-STAT_V2_HEADER c =
-    let s = c.args in
-    not-tried (stat_now s.rec.now s.rx.now s.msg.now s.lent.now s.count s.out.now) _ _
-    (rw (le-leb 13 (number_in s.rec.now 7) (omega arith), lt-leb (number_in s.rec.now 7) 14 (omega arith)))
-
 pub stat_at-requires : goal.stat_at-requires
 stat_at-requires c = let h = (let_in (goal.at.stat_at-requires c).Then-fits).0 in (h.sized, h.order, omega (arith, h))
 
@@ -49,9 +37,4 @@ returns-then-fits c =
 pub returns : goal.returns
 returns c =
     let s = c.args in
-    not-tried (stat_now s.rec.now s.rx.now s.msg.now s.lent.now s.count s.out.now) _ _
-    (rw (
-      le-leb 13 (number_in s.rec.now 7) (omega arith),
-      le-leb (number_in s.rec.now 7) 14 (omega arith),
-      sym c.fits.ensures ∙ c.if-fits.false,
-    ))
+    not-tried (stat_now s.rec.now s.rx.now s.msg.now s.lent.now s.count s.out.now) _ _ (grind arith)

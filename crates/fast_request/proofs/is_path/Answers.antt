@@ -3,4 +3,4 @@ use Rattle.request_path.proofs.Laws.{none-by}
 use Rattle.fast_request.proofs.is_path.Goals as goal
 
 pub returns : goal.returns
-returns c = rw (none-by, c.path_refusal-number.ensures)
+returns c = rw (c.is_ok.ensures.value, none-by, c.check_path.ensures)

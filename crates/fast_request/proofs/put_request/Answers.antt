@@ -4,6 +4,7 @@ use mathlib.Core.Path.{ap, ◌∙◌}
 use Prim.Native.Nat.{ℕ, ◌-◌}
 use native.Mathlib.Omega.{arith}
 use lib.ListN.{length, take, drop}
+use Rattle.std.specs.Prelude.{Option}
 use Rattle.protocol.specs.Bytes.{put}
 use Rattle.protocol.specs.Messages.{word, joined, message_of, bytes_of_request}
 use Rattle.ids.specs.Ids.{number_of}
@@ -26,5 +27,5 @@ returns c =
     let p = a.path.now in
     let i = c.id_in-id.ensures ∙ ap (number_of (ids_held rec)) c.path_id.ensures in
     let e = r.ensures ∙ ap (λ (j : ℕ). placed (take (length x - held) (drop held x)) 0 (word j ++ word (length p) ++ joined (p ∷ []))) i in
-    ap (λ (s : List ℕ × ℕ). s.0) (placed_end x held (omega arith) (ask_bytes rec a.call p) r.new.out r.result e)
+    ap (λ (s : List ℕ × Option ℕ). s.0) (placed_end x held (omega arith) (ask_bytes rec a.call p) r.new.out r.result e)
     ∙ ap (λ (s : List ℕ × RecvBuf). put s.0 held (ask_bytes rec a.call p)) k.ensures

@@ -2,7 +2,6 @@
 use mathlib.Core.Path.{◌≡◌, sym, ap, ◌∙◌}
 use Prim.Native.Nat.{ℕ, ◌≤◌}
 use native.Mathlib.Omega.{arith}
-use borrow.Author.Tests.{le-leb, lt-leb}
 use lib.ListN.{length}
 use Rattle.boundary.specs.Told.{out_size}
 use Rattle.fast_replies.proofs.Taken.{not-tried}
@@ -21,18 +20,6 @@ let_in c =
     let a = c.args in
     idle-true a.rec.now (length a.rx.now) (length a.msg.now) (length a.out.now) (sym c.is_idle.ensures ∙ c.if-is_idle.true)
 
-pub returns-then-call-eq0 : goal.returns-then-call-eq0
-returns-then-call-eq0 c a b =
-    let s = c.args in
-    not-tried (ask_now s.rec.now s.rx.now s.msg.now s.lent.now s.call s.out.now) _ _
-    (rw (lt-leb 1 s.call (omega arith)))
-
-pub returns-then-call-gt5 : goal.returns-then-call-gt5
-returns-then-call-gt5 c a b =
-    let s = c.args in
-    not-tried (ask_now s.rec.now s.rx.now s.msg.now s.lent.now s.call s.out.now) _ _
-    (rw (le-leb 1 s.call (omega arith), lt-leb s.call 5 c.if-call-gt5.true))
-
 pub write-requires : goal.write-requires
 write-requires c = let h = (let_in (goal.at.write-requires c).Then-is_idle).1 in (h.sized, h.order, omega (arith, h))
 
@@ -41,35 +28,11 @@ returns-then-is_path c a b =
     let s = c.args in
     let (i, h, o) = let_in (goal.at.returns-then-is_path c).Then-is_idle in
     ask-tried s.rec.now s.rx.now s.msg.now s.lent.now s.out.now h o i
-    (sym c.is_path.ensures ∙ c.if-is_path.true) s.call a b (omega arith) c.if-call-gt5.false
+    (sym c.is_path.ensures ∙ c.if-is_path.true) s.call a b (omega arith) (omega arith)
     (ap (λ (j : ℕ). offered j s.call) (sym c.number.ensures) ∙ sym c.is_offered.ensures ∙ c.if-is_offered.true) _ _ _ _
     c.write.ensures
-
-pub returns-then-is_offered : goal.returns-then-is_offered
-returns-then-is_offered c a b =
-    let s = c.args in
-    not-tried (ask_now s.rec.now s.rx.now s.msg.now s.lent.now s.call s.out.now) _ _
-    (rw (
-      le-leb 1 s.call (omega arith),
-      le-leb s.call 5 (omega arith),
-      sym c.is_idle.ensures ∙ c.if-is_idle.true,
-      ap (λ (j : ℕ). offered j s.call) (sym c.number.ensures) ∙ sym c.is_offered.ensures ∙ c.if-is_offered.true,
-      sym c.is_path.ensures ∙ c.if-is_path.false,
-    ))
-
-pub returns-then-is_idle : goal.returns-then-is_idle
-returns-then-is_idle c a b =
-    let s = c.args in
-    not-tried (ask_now s.rec.now s.rx.now s.msg.now s.lent.now s.call s.out.now) _ _
-    (rw (
-      le-leb 1 s.call (omega arith),
-      le-leb s.call 5 (omega arith),
-      sym c.is_idle.ensures ∙ c.if-is_idle.true,
-      ap (λ (j : ℕ). offered j s.call) (sym c.number.ensures) ∙ sym c.is_offered.ensures ∙ c.if-is_offered.false,
-    ))
 
 pub returns : goal.returns
 returns c a b =
     let s = c.args in
-    not-tried (ask_now s.rec.now s.rx.now s.msg.now s.lent.now s.call s.out.now) _ _
-    (rw (le-leb 1 s.call (omega arith), le-leb s.call 5 (omega arith), sym c.is_idle.ensures ∙ c.if-is_idle.false))
+    not-tried (ask_now s.rec.now s.rx.now s.msg.now s.lent.now s.call s.out.now) _ _ (grind arith)

@@ -30,6 +30,6 @@ returns c =
     written_in (ask_fits rec rx a.lent.now) rec 0 (held_count_in rec) n (plain_step a.call 0) (R.WriteRx (held_count_in rec) (8 + n)) a.out.now rx
     (asked_in rec rx (number_in rec 2) (number_in rec 3) a.call a.lent.now) _ _ _ _ _ _
     (le-leb (8 + n) (length rx - held_count_in rec) (omega arith)) c.requires.0 refl (omega arith) refl
-    c.store_plain.ensures
+    c.store_step.ensures
     (c.put_request.ensures ∙ rw (h, t))
-    (c.put_two.ensures ∙ rw (h, t))
+    (c.put_u64s.ensures ∙ rw (h, t))

@@ -2,7 +2,7 @@
 use mathlib.Core.Path.{◌∙◌}
 use Prim.Native.Nat.{◌+◌, ◌-◌}
 use native.Mathlib.Omega.{arith}
-use borrow.Author.Tests.{lt-ltb, le-ltb}
+use borrow.Author.Tests.{lt-ltb}
 use lib.ListN.{length}
 use Rattle.boundary.specs.Told.{reply_bytes}
 use Rattle.fast_replies.proofs.Taken.{done-out, done-in}
@@ -15,11 +15,11 @@ pub returns-then-held-ge8 : goal.returns-then-held-ge8
 returns-then-held-ge8 c =
     let a = c.args in
     let rec = a.rec.now in
-    done-out (header_short rec a.rx.now) rec _ _ _ _ _ a.out.now (rw (le-ltb (number_in rec 3 - number_in rec 2) 8 (omega arith)))
+    done-out (header_short rec a.rx.now) rec _ _ _ _ _ a.out.now (grind arith)
 
-pub returns-then-tail-rx : goal.returns-then-tail-rx
+pub returns : goal.returns
 unfolding reply_bytes
-returns-then-tail-rx c =
+returns c =
     let a = c.args in
     let rec = a.rec.now in
     let h = c.number-head.ensures in
@@ -27,11 +27,4 @@ returns-then-tail-rx c =
     done-in (header_short rec a.rx.now) rec (number_in rec 2) (number_in rec 3) (number_in rec 4) (plain_step a.state (number_in rec 2 + 8))
     (R.Read (number_in rec 3) (length a.rx.now - number_in rec 3)) a.out.now _ _ _ _ _
     (rw (lt-ltb (number_in rec 3 - number_in rec 2) 8 (omega arith), lt-ltb (number_in rec 3) (length a.rx.now) (omega arith))) c.requires.0 h t c.number-lent.ensures
-    (c.store_plain.ensures ∙ rw h) (c.put_two.ensures ∙ rw t)
-
-pub returns : goal.returns
-returns c =
-    let a = c.args in
-    let rec = a.rec.now in
-    done-out (header_short rec a.rx.now) rec _ _ _ _ _ a.out.now
-    (rw (lt-ltb (number_in rec 3 - number_in rec 2) 8 (omega arith), le-ltb (number_in rec 3) (length a.rx.now) (omega arith)))
+    (c.store_step.ensures ∙ rw h) (c.put_u64s.ensures ∙ rw t)

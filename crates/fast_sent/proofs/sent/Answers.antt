@@ -2,7 +2,6 @@
 use mathlib.Core.Path.{◌≡◌, sym, ap, ◌∙◌}
 use Prim.Native.Nat.{ℕ, ◌+◌, ◌≤◌}
 use native.Mathlib.Omega.{arith}
-use borrow.Author.Tests.{le-leb, lt-leb, eq-eqb, ne_eqb}
 use lib.ListN.{length}
 use Rattle.boundary.specs.Told.{out_size}
 use Rattle.fast_replies.proofs.Taken.{not-tried}
@@ -21,17 +20,6 @@ let_in c =
     let a = c.args in
     fits-true a.rec.now (length a.rx.now) (length a.msg.now) (length a.lent.now) (length a.out.now) (sym c.fits.ensures ∙ c.if-fits.true)
 
-pub returns-then-state-lt-STAT_OUT : goal.returns-then-state-lt-STAT_OUT
-returns-then-state-lt-STAT_OUT c =
-    let s = c.args in
-    not-tried (sent_now s.rec.now s.rx.now s.msg.now s.lent.now s.out.now) _ _ (rw (lt-leb 1 (number_in s.rec.now 7) (omega arith)))
-
-pub returns-then-state-gt-STAT_V2_OUT : goal.returns-then-state-gt-STAT_V2_OUT
-returns-then-state-gt-STAT_V2_OUT c =
-    let s = c.args in
-    not-tried (sent_now s.rec.now s.rx.now s.msg.now s.lent.now s.out.now) _ _
-    (rw (le-leb 1 (number_in s.rec.now 7) (omega arith), lt-leb (number_in s.rec.now 7) 2 (omega arith)))
-
 pub ask_header-requires : goal.ask_header-requires
 ask_header-requires c = let h = (let_in (goal.at.ask_header-requires c).Then-fits).0 in (h.sized, h.order)
 
@@ -45,23 +33,7 @@ returns-then-fits c =
     (state-of n (omega arith) (omega arith)) _ _ _
     (c.ask_header.ensures ∙ ap (λ (k : ℕ). header_done s.rec.now s.rx.now (k + 12) s.out.now) e)
 
-pub returns-then-number-eq0 : goal.returns-then-number-eq0
-returns-then-number-eq0 c =
-    let s = c.args in
-    not-tried (sent_now s.rec.now s.rx.now s.msg.now s.lent.now s.out.now) _ _
-    (rw (
-      le-leb 1 (number_in s.rec.now 7) (omega arith),
-      le-leb (number_in s.rec.now 7) 2 (omega arith),
-      eq-eqb (number_in s.rec.now 11) 0 (omega arith),
-      sym c.fits.ensures ∙ c.if-fits.false,
-    ))
-
 pub returns : goal.returns
 returns c =
     let s = c.args in
-    not-tried (sent_now s.rec.now s.rx.now s.msg.now s.lent.now s.out.now) _ _
-    (rw (
-      le-leb 1 (number_in s.rec.now 7) (omega arith),
-      le-leb (number_in s.rec.now 7) 2 (omega arith),
-      ne_eqb (number_in s.rec.now 11) 0 (λ e. c.if-number-eq0.false (c.number.ensures ∙ e)),
-    ))
+    not-tried (sent_now s.rec.now s.rx.now s.msg.now s.lent.now s.out.now) _ _ (grind arith)

@@ -51,10 +51,10 @@ loop-n-init c =
     let a = c.args in
     elim c.if-begins.branch [
       | then-begins w ↦
-          tried-so a.s.now a.from a.to w.n-is w.last-is w.rest-is
+          tried-so a.s.now a.from a.to w.first-is w.last-is w.rest-is
           (begun-tried a.s.now a.from a.to (omega arith) (omega arith) (sym c.begins.ensures ∙ w.if-begins.true))
       | else-begins w ↦
-          tried-so a.s.now a.from a.to w.n-is w.last-is w.rest-is
+          tried-so a.s.now a.from a.to w.first-is w.last-is w.rest-is
           (alone_tried a.s.now a.from a.to (omega arith) (omega arith) (sym c.begins.ensures ∙ w.if-begins.false))
     ]
 
@@ -76,7 +76,7 @@ slice_bounds-part_is-end c = let r = ends-rise c.loop-n.n (omega arith) (omega a
 pub returns-then-part_is : goal.returns-then-part_is
 returns-then-part_is c =
     let hit = c.loop-n.invariant.3 c.loop-n.n (omega arith) c.loop-n-test.true in
-    (omega arith, hit (sym c.part_is.ensures ∙ c.if-part_is.true))
+    (omega arith, omega arith, hit (sym c.part_is.ensures ∙ c.if-part_is.true))
 
 pub loop-n-preserved : goal.loop-n-preserved
 loop-n-preserved c =
@@ -89,5 +89,10 @@ loop-n-preserved c =
       λ f. c.loop-n.invariant.4 (missed (slice c.if-begins.rest a.to a.s.now) c.loop-n.n c.if-begins.last other f),
     )
 
-pub returns : goal.returns
-returns c = (search rules, c.loop-n.invariant.4 (λ m h k. absurd (omega arith)))
+pub returns-else-part_is : goal.returns-else-part_is
+returns-else-part_is c =
+    let other = sym c.part_is.ensures ∙ c.if-part_is.false in
+    c.loop-n.invariant.4 (missed (slice c.if-begins.rest c.args.to c.args.s.now) c.loop-n.n c.if-begins.last other (λ m h k. absurd (omega arith)))
+
+pub returns-after-begins : goal.returns-after-begins
+returns-after-begins c = c.loop-n.invariant.4 (λ m h k. absurd (omega arith))

@@ -1,10 +1,9 @@
 -- `features::number_at` meets its contract. The invariant of its loop: a tail from n to `last` that is the rest of the part gives its number, and
--- where none is, the part names no feature. The measure is how many numbers are left.
---
+-- where none is, the part names no feature.
 use mathlib.Core.Bool.{true, false}
 use mathlib.Core.List.{List}
 use mathlib.Core.Path.{◌≡◌}
-use Prim.Native.Nat.{ℕ, ◌+◌, ◌-◌, ◌≤◌}
+use Prim.Native.Nat.{ℕ, ◌≤◌}
 use lib.Seq.{slice}
 use Rattle.protocol.specs.Bytes.{same}
 use Rattle.features.specs.Meaning.{Named}
@@ -25,6 +24,3 @@ Tried s f e n last rest =
 
 abbrev pub invariant-loop-n : goal.invariant-loop-n
 invariant-loop-n l = Tried l.s l.from l.to l.n l.last l.rest
-
-abbrev pub decreases-loop-n : goal.decreases-loop-n
-decreases-loop-n l = l.last + 1 - l.n

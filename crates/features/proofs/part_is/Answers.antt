@@ -1,21 +1,16 @@
 -- `features::part_is` meets its contract.
-use mathlib.Core.Path.{sym, ◌∙◌}
+use mathlib.Core.List.{List}
+use mathlib.Core.Path.{◌≡◌, ap, ◌∙◌}
+use Prim.Native.Nat.{ℕ, ◌-◌}
+use borrow.Author.Rules.{rules}
 use native.Mathlib.Omega.{arith}
-use lib.ListN.{length}
-use lib.Seq.{slice, length-slice, take_all}
-use Rattle.protocol.proofs.Features.{same_length}
+use lib.ListN.{take, drop}
+use Rattle.protocol.specs.Bytes.{same}
+use Rattle.features.proofs.Laws.{slice-part}
 use Rattle.features.proofs.part_is.Goals as goal
-
-pub returns-then-to-from : goal.returns-then-to-from
-returns-then-to-from c =
-    let a = c.args in
-    let p = slice a.from a.to a.s.now in
-    let l = length-slice a.from a.to a.s.now (omega arith) in
-    sym (same_length p a.text.now (λ e. omega arith))
 
 pub returns : goal.returns
 returns c =
     let a = c.args in
-    let p = slice a.from a.to a.s.now in
-    let l = length-slice a.from a.to a.s.now (omega arith) in
-    c.begins.ensures ∙ rw (take_all (length a.text.now) p (omega arith))
+    let e : c.eq.result ≡ same (take (a.to - a.from) (drop a.from a.s.now)) a.text.now = search rules in
+    e ∙ ap (λ (l : List ℕ). same l a.text.now) (slice-part a.from a.to a.s.now (omega arith))

@@ -1,27 +1,26 @@
--- Answers to goals of `features::piece_end`.
-use mathlib.Core.Path.{sym, ◌∙◌}
-use borrow.Author.Rules.{rules}
-use lib.Seq.{slice, slice_empty}
-use Rattle.protocol.proofs.Features.{split-on}
-use Rattle.features.proofs.Pieces.{piece_cut, piece-last}
+-- `features::piece_end` meets its contract.
+use mathlib.Core.Path.{◌≡◌, sym, ap, ◌∙◌}
+use native.Mathlib.Omega.{arith}
+use lib.ListN.{drop, length-drop}
+use lib.Seq.{take_all}
+use Rattle.std.specs.Prelude.{position}
+use Rattle.protocol.specs.Features.{separator}
+use Rattle.features.proofs.Pieces.{piece_to, piece_all}
+use Rattle.features.proofs.piece_end.Goals.{After-first_separator}
 use Rattle.features.proofs.piece_end.Goals as goal
 
-pub loop-i-init : goal.loop-i-init
-loop-i-init c = (search rules, search rules, rw slice_empty)
-
-pub returns-then-is_separator : goal.returns-then-is_separator
-returns-then-is_separator c =
+found : (c : After-first_separator) → c.first_separator.result ≡ position separator (drop c.args.from c.args.s.now)
+found c =
     let s = c.args.s.now in
-    let cut = piece_cut s (slice c.args.from c.loop-i.i s) c.loop-i.i c.loop-i-test.true in
-    (search rules, search rules, c.loop-i.invariant.2 ∙ cut (sym c.is_separator.ensures ∙ c.if-is_separator.true))
+    c.first_separator.ensures ∙ ap (position separator) (take_all _ (drop c.args.from s) (omega (arith, length-drop c.args.from s)))
 
-pub loop-i-preserved : goal.loop-i-preserved
-loop-i-preserved c =
-    let s = c.args.s.now in
-    let other = sym c.is_separator.ensures ∙ c.if-is_separator.false in
-    (search rules, search rules, c.loop-i.invariant.2 ∙ split-on s c.loop-i.i c.loop-i-test.true c.args.from c.loop-i.invariant.0 other)
+pub returns-in-Some : goal.returns-in-Some
+returns-in-Some c =
+    let e = sym (found (goal.at.returns-in-Some c).After-first_separator) ∙ c.in-Some.is in
+    let p = piece_to c.args.s.now c.args.from (omega arith) c.in-Some.size e in
+    (omega arith, p.0, p.1)
 
-pub returns : goal.returns
-returns c =
-    let s = c.args.s.now in
-    (search rules, search rules, c.loop-i.invariant.2 ∙ piece-last s (slice c.args.from c.loop-i.i s) c.loop-i.i c.loop-i-test.false)
+pub returns-in-None : goal.returns-in-None
+returns-in-None c =
+    let e = sym (found (goal.at.returns-in-None c).After-first_separator) ∙ c.in-None.is in
+    (omega arith, omega arith, piece_all c.args.s.now c.args.from (omega arith) e)

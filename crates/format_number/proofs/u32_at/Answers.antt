@@ -1,18 +1,15 @@
 -- `format_number::u32_at` meets its contract.
-use mathlib.Core.Path.{sym}
-use native.Mathlib.Omega.{arith}
-use Rattle.protocol.specs.Records.{u32_at}
-use Rattle.protocol.proofs.Bytes.{whole_out}
-use Rattle.protocol.proofs.Records.{u32_in}
+use mathlib.Core.Path.{sym, ◌∙◌}
+use Rattle.format_number.proofs.Numbers.{from_le_bytes-le_4, first-length, whole-first}
 use Rattle.format_number.proofs.u32_at.Goals as goal
-
-pub returns-then-s-lt4 : goal.returns-then-s-lt4
-returns-then-s-lt4 c = let a = c.args in sym (whole_out 4 0 (u32_at 0) a.s.now a.off (omega arith))
-
-pub returns-then-last-off : goal.returns-then-last-off
-returns-then-last-off c = let a = c.args in sym (whole_out 4 0 (u32_at 0) a.s.now a.off (omega arith))
 
 pub returns : goal.returns
 returns c =
     let a = c.args in
-    omega (arith, u32_in a.s.now a.off (omega arith))
+    let rest = c.in-Some.rest.now in
+    let bytes = c.in-Some-first_chunk.bytes.now in
+    let front = c.in-Some-first_chunk.ensures.cases in
+    let behind = c.in-Some.ensures.lookup.0 in
+    c.from_le_bytes.ensures
+    ∙ from_le_bytes-le_4 bytes (first-length 4 a.s.now a.off rest bytes front.enough front.same)
+    ∙ sym (whole-first 4 a.s.now a.off rest bytes front.enough front.same behind.0 behind.2)

@@ -8,14 +8,14 @@ use Rattle.hours.proofs.lets_at.Goals as goal
 pub returns-then-bytes-eq0 : goal.returns-then-bytes-eq0
 returns-then-bytes-eq0 c = let a = c.args in sym (lets-none a.bytes.now a.moment c.if-bytes-eq0.true)
 
-pub returns-then-minute-word : goal.returns-then-minute-word
-returns-then-minute-word c =
+pub returns-else-word-minute : goal.returns-else-word-minute
+returns-else-word-minute c =
     let a = c.args in
     let by = lets_by a.bytes.now a.moment (λ i. (c.type_inv.bytes i).fits) (search rules) c.if-bytes-eq0.false in
-    sym (by ∙ rw (← c.u32_at-word.ensures, lt-leb _ _ c.if-minute-word.true))
+    sym (by ∙ rw (← c.u32_at-word.ensures, lt-leb _ _ c.if-word-minute.false))
 
-pub returns : goal.returns
-returns c =
+pub returns-then-word-minute : goal.returns-then-word-minute
+returns-then-word-minute c =
     let a = c.args in
     let by = lets_by a.bytes.now a.moment (λ i. (c.type_inv.bytes i).fits) (search rules) c.if-bytes-eq0.false in
-    sym (by ∙ rw (← c.u32_at-word.ensures, le-leb _ _ c.if-minute-word.false))
+    sym (by ∙ rw (← c.u32_at-word.ensures, le-leb _ _ c.if-word-minute.true))

@@ -11,5 +11,5 @@ pub returns : goal.returns
 returns c =
     let a = c.args in
     c.put_u32.ensures
-    ∙ ap (put a.days.now (4 * a.day)) (pair_word a.opens a.closes (omega arith))
-    ∙ put_in a.days.now (4 * a.day) _ (omega arith)
+    ∙ ap (put a.days.now (4 * a.span.day)) (pair_word a.span.opens a.span.closes (omega arith))
+    ∙ put_in a.days.now (4 * a.span.day) _ (omega arith)

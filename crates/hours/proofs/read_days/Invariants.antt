@@ -1,15 +1,14 @@
--- `hours::read_days` meets its contract. The invariant of its loop: reading what is left from `at` on, with days from `next` on, comes to the same
--- as reading all. The measure is what is left.
---
+-- `hours::read_days` meets its contract. The invariant of its loop: reading what is left, with days from `next` on, comes to the same as reading
+-- all. The measure is what is left.
 use mathlib.Core.Path.{◌≡◌}
-use Prim.Native.Nat.{◌-◌, ◌≤◌}
-use lib.ListN.{length, drop}
-use Rattle.hours.specs.Scan.{scanned}
+use Prim.Native.Nat.{◌≤◌}
+use lib.ListN.{length, replicate}
+use Rattle.hours.specs.Scan.{days_size, scanned}
 use Rattle.hours.proofs.read_days.Given as goal
 
-abbrev pub invariant-loop-at : goal.invariant-loop-at
-invariant-loop-at l =
-    (l.at ≤ length l.lines) × (length l.days ≡ length l.initial.days) × (scanned 0 l.initial.days l.lines ≡ scanned l.next l.days (drop l.at l.lines))
+abbrev pub invariant-loop-rest : goal.invariant-loop-rest
+invariant-loop-rest l =
+    (length l.days ≡ days_size) × (length l.rest ≤ length l.lines) × (scanned 0 (replicate days_size 0) l.lines ≡ scanned l.next l.days l.rest)
 
-abbrev pub decreases-loop-at : goal.decreases-loop-at
-decreases-loop-at l = length l.lines - l.at
+abbrev pub decreases-loop-rest : goal.decreases-loop-rest
+decreases-loop-rest l = length l.rest

@@ -39,7 +39,7 @@ returns-then-turned_away c =
     let r = c.refused-then-turned_away.ensures in
     closed a.rec.now a.rx.now a.msg.now a.out.now c.if-rec-ne-TIMED.false (inner a.rec.now a.rx.now a.msg.now a.lent.now a.out.now a.call a.a a.b) a.call a.moment
     (sym (is-tested (goal.at.returns-then-turned_away c).After-turned_away) ∙ c.if-turned_away.true)
-    (r.0, r.1 ∙ ap (counted 6400 0) c.put_three.ensures)
+    (r.0, r.1 ∙ ap (counted 6400 0) c.put_u64s.ensures)
 
 pub slice_bounds-total_start-end-2 : goal.slice_bounds-total_start-end-2
 slice_bounds-total_start-end-2 c = sym (length-take-le record_size c.args.rec.now (omega arith))

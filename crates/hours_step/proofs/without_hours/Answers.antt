@@ -1,22 +1,19 @@
 -- `hours_step::without_hours` meets its contract.
 use mathlib.Core.Path.{sym, ap, ◌∙◌}
-use native.Mathlib.Omega.{arith}
-use borrow.Author.Tests.{lt-ltb, le-ltb}
+use borrow.Author.Tests.{lt-ltb}
+use Rattle.id_table.specs.Refusal.{lent_of}
+use Rattle.session.proofs.Refused.{some-number}
 use Rattle.hours_step.specs.Opening.{refused_table, refused_anyway}
 use Rattle.hours_step.proofs.without_hours.Goals as goal
 
-pub returns-then-n-gt0 : goal.returns-then-n-gt0
+pub returns-in-Err : goal.returns-in-Err
 unfolding refused_anyway
-returns-then-n-gt0 c = rw (← c.open_refusal-n.ensures, lt-ltb 0 c.open_refusal-n.result c.if-n-gt0.true)
+returns-in-Err c = rw (← c.in-Err.ensures, lt-ltb 0 _ (some-number c.in-Err.misuse)) c.number.ensures
 
-pub returns-in-Refused : goal.returns-in-Refused
+pub returns-in-Err-table_in : goal.returns-in-Err-table_in
 unfolding refused_anyway
-returns-in-Refused c =
-    let n = c.open_refusal-n in
-    rw (← n.ensures, le-ltb 0 n.result (omega (arith, c.if-n-gt0.false))) (ap refused_table (sym c.in-Refused.is ∙ c.table_in-lent.ensures))
+returns-in-Err-table_in c = rw (← c.in_default.ensures) (c.number-in-Err-table_in.ensures ∙ ap refused_table (ap lent_of (sym c.in-Err-table_in.is) ∙ c.table_in.ensures))
 
-pub returns-in-Ids : goal.returns-in-Ids
+pub returns-in-Ok : goal.returns-in-Ok
 unfolding refused_anyway
-returns-in-Ids c =
-    let n = c.open_refusal-n in
-    rw (← n.ensures, le-ltb 0 n.result (omega (arith, c.if-n-gt0.false))) (ap refused_table (sym c.in-Ids.is ∙ c.table_in-lent.ensures))
+returns-in-Ok c = rw (← c.in_default.ensures) (ap refused_table (ap lent_of (sym c.in-Ok.is) ∙ c.table_in.ensures))

@@ -1,34 +1,37 @@
 -- Answers to goals of `id_table::copy_values`.
-use mathlib.Core.Path.{refl, sym, ap, ◌∙◌}
+use Prim.Native.Nat.{◌+◌, ◌-◌, ◌*◌}
+use mathlib.Core.Path.{◌≡◌, refl, sym, ap, ◌∙◌}
 use native.Mathlib.Omega.{arith}
-use borrow.Author.Rules.{rules}
 use lib.ListN.{length, drop}
 use Rattle.protocol.proofs.Bytes.{over_none, put-length}
 use Rattle.id_table.proofs.Groups.{groups_none, copied_next}
 use Rattle.id_table.proofs.copy_values.Goals as goal
+use Rattle.id_table.specs.IdsFile.{count}
+use Rattle.id_table.specs.Places.{line_size}
 
-pub loop-left-init : goal.loop-left-init
-loop-left-init c = (search rules, search rules, refl, refl)
+pub loop-i-init : goal.loop-i-init
+loop-i-init c = (refl, refl)
 
-pub loop-left-preserved : goal.loop-left-preserved
-loop-left-preserved c =
+pub loop-i-preserved : goal.loop-i-preserved
+loop-i-preserved c =
     let file = c.args.file.now in
-    let same = ap length c.put_u32.ensures ∙ put-length c.loop-left.settings c.loop-left.to _ in (
-      omega arith,
-      omega arith,
-      same ∙ c.loop-left.invariant.2,
-      copied_next c.loop-left.settings c.put_u32.new.out file c.loop-left.to c.loop-left.at c.loop-left.left c.u32_at-value.result
-          (λ i. (c.type_inv.file i).fits)
-          (omega arith) (omega arith) (omega arith)
-          c.u32_at-value.ensures
-          c.put_u32.ensures
-          ∙ c.loop-left.invariant.3,
-    )
+    let l = c.loop-i in
+    let same = ap length c.put_u32.ensures ∙ put-length l.settings (4 * l.i) _ in
+    let left : count - l.i - 1 ≡ count - (l.i + 1) = omega arith in
+    let from : line_size + 5 * l.i + 5 ≡ line_size + 5 * (l.i + 1) = omega arith in
+    let to : 4 * l.i + 4 ≡ 4 * (l.i + 1) = omega arith in
+    let copied = copied_next l.settings c.put_u32.new.out file (4 * l.i) (line_size + 5 * l.i) (count - l.i) c.u32_at-value.result
+    (λ k. (c.type_inv.file k).fits)
+    (omega arith) (omega arith) (omega arith)
+    c.u32_at-value.ensures
+    c.put_u32.ensures in
+    (same ∙ l.invariant.0, (rw (left, from, to) at copied) ∙ l.invariant.1)
 
 pub shape_of-settings : goal.shape_of-settings
-shape_of-settings c = c.loop-left.invariant.2
+shape_of-settings c = c.loop-i.invariant.0
 
 pub returns : goal.returns
 returns c =
     let file = c.args.file.now in
-    sym (over_none c.loop-left.settings c.loop-left.to) ∙ rw (groups_none 5 c.loop-left.left (drop c.loop-left.at file) (omega arith)) at c.loop-left.invariant.3
+    let l = c.loop-i in
+    sym (over_none l.settings (4 * l.i)) ∙ rw (groups_none 5 (count - l.i) (drop (line_size + 5 * l.i) file) (omega arith)) at l.invariant.1

@@ -1,8 +1,6 @@
--- `id_table::copy_values` meets its contract. The invariant of its loop: with the values that are left put from `to` on, `settings` is what it is
--- to become. The measure is how many are left.
---
+-- `id_table::copy_values` meets its contract. The invariant of its loop: with those from i on, the settings have all values.
 use mathlib.Core.Path.{◌≡◌}
-use Prim.Native.Nat.{◌+◌, ◌*◌, ◌≤◌}
+use Prim.Native.Nat.{◌+◌, ◌-◌, ◌*◌}
 use lib.ListN.{length, drop}
 use Rattle.protocol.specs.Bytes.{over}
 use Rattle.protocol.specs.Messages.{joined}
@@ -10,10 +8,7 @@ use Rattle.id_table.specs.IdsFile.{count}
 use Rattle.id_table.specs.Places.{groups, line_size}
 use Rattle.id_table.proofs.copy_values.Given as goal
 
-abbrev pub invariant-loop-left : goal.invariant-loop-left
-invariant-loop-left l =
-    (l.at + 5 * l.left ≤ length l.file) × (l.to + 4 * l.left ≤ length l.settings) × (length l.settings ≡ length l.initial.settings)
-    × (over l.settings l.to (joined (groups 5 l.left (drop l.at l.file))) ≡ over l.initial.settings 0 (joined (groups 5 count (drop line_size l.file))))
-
-abbrev pub decreases-loop-left : goal.decreases-loop-left
-decreases-loop-left l = l.left
+abbrev pub invariant-loop-i : goal.invariant-loop-i
+invariant-loop-i l =
+    (length l.settings ≡ length l.initial.settings)
+    × (over l.settings (4 * l.i) (joined (groups 5 (count - l.i) (drop (line_size + 5 * l.i) l.file))) ≡ over l.initial.settings 0 (joined (groups 5 count (drop line_size l.file))))

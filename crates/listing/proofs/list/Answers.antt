@@ -14,23 +14,23 @@ walk-requires c =
     let l = laid_of heading_room a.out.now 0 heading (omega (arith, p)) c.put_heading-from.ensures in
     let h = heading-length in
     record {
-      fresh = session-is (length a.rx.now) (length a.msg.now) p.least p.aside _ c.published-ids.ensures c.open-opened.ensures c.in-Session.is;
+      fresh = session-is (length a.rx.now) (length a.msg.now) p.least p.aside _ c.published-ids.ensures c.open-opened.ensures c.in-Ok.is;
       least = p.least;
       aside = p.aside;
       within = p.within;
       room = omega (arith, p, l, h, laid-length l (omega (arith, p, h)));
     }
 
-pub returns-in-Session : goal.returns-in-Session
+pub returns-in-Ok : goal.returns-in-Ok
 unfolding printed
-returns-in-Session c =
+returns-in-Ok c =
     let a = c.args in
     let p = c.requires in
     let l = laid_of heading_room a.out.now 0 heading (omega (arith, p)) c.put_heading-from.ensures in
     let w = c.walk.ensures in
     (laid-laid l (omega (arith, p, heading-length)) w.0, w.1)
 
-pub returns-in-Refused : goal.returns-in-Refused
-returns-in-Refused c =
+pub returns-in-Err : goal.returns-in-Err
+returns-in-Err c =
     let a = c.args in
-    absurd (not-refused (length a.rx.now) (length a.msg.now) c.requires.least c.requires.aside _ c.published-ids.ensures c.open-opened.ensures c.in-Refused.is)
+    absurd (not-refused (length a.rx.now) (length a.msg.now) c.requires.least c.requires.aside _ c.published-ids.ensures c.open-opened.ensures c.in-Err.is)

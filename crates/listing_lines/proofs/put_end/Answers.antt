@@ -8,11 +8,8 @@ use Rattle.listing_lines.specs.Lines.{end_line, end_room}
 use Rattle.listing_lines.proofs.Laws.{laid-laid, laid_in_lem, laid_out}
 use Rattle.listing_lines.proofs.put_end.Goals as goal
 
-pub returns-then-out-at : goal.returns-then-out-at
-returns-then-out-at c = laid_out end_room _ _ (end_line c.args.number) (omega arith)
-
-pub returns-then-free-lt15 : goal.returns-then-free-lt15
-returns-then-free-lt15 c = laid_out end_room _ _ (end_line c.args.number) (omega arith)
+pub returns-then-saturating_sub-lt15 : goal.returns-then-saturating_sub-lt15
+returns-then-saturating_sub-lt15 c = laid_out end_room _ _ (end_line c.args.number) (omega arith)
 
 pub put_decimal-end-requires : goal.put_decimal-end-requires
 put_decimal-end-requires c = let a = c.args in omega (arith, decimal-length a.number (omega arith))

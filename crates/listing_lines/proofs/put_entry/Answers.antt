@@ -4,14 +4,8 @@ use Rattle.listing_lines.specs.Lines.{entry_line, entry_room}
 use Rattle.listing_lines.proofs.Laws.{numbers-length, laid-laid, laid_in_lem, laid_out}
 use Rattle.listing_lines.proofs.put_entry.Goals as goal
 
-pub returns-then-out-at : goal.returns-then-out-at
-returns-then-out-at c = let a = c.args in laid_out (entry_room a.name.now) a.out.now a.at _ (omega arith)
-
 pub returns-then-free-lt35 : goal.returns-then-free-lt35
 returns-then-free-lt35 c = let a = c.args in laid_out (entry_room a.name.now) a.out.now a.at _ (omega arith)
-
-pub returns-then-half-name : goal.returns-then-half-name
-returns-then-half-name c = let a = c.args in laid_out (entry_room a.name.now) a.out.now a.at _ (omega arith)
 
 pub put_name-requires : goal.put_name-requires
 put_name-requires c =

@@ -4,11 +4,8 @@ use Rattle.listing_lines.specs.Lines.{heading, heading_room}
 use Rattle.listing_lines.proofs.Laws.{laid_in_lem, laid_out}
 use Rattle.listing_lines.proofs.put_heading.Goals as goal
 
-pub returns-then-out-at : goal.returns-then-out-at
-returns-then-out-at c = laid_out heading_room _ _ heading (omega arith)
-
-pub returns-then-free-lt21 : goal.returns-then-free-lt21
-returns-then-free-lt21 c = laid_out heading_room _ _ heading (omega arith)
+pub returns-then-saturating_sub-lt21 : goal.returns-then-saturating_sub-lt21
+returns-then-saturating_sub-lt21 c = laid_out heading_room _ _ heading (omega arith)
 
 pub returns : goal.returns
 unfolding heading

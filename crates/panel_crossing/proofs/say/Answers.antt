@@ -1,7 +1,8 @@
 -- `panel_crossing::say` meets its contract.
-use mathlib.Core.Path.{◌∙◌}
+use mathlib.Core.Path.{ap, ◌∙◌}
 use borrow.Author.Tests.{lt-ltb}
-use Rattle.panel_side.specs.Crossing.{cross_speak}
+use Rattle.id_table.specs.Refusal.{lent_of}
+use Rattle.panel_side.specs.Crossing.{spoke, cross_speak}
 use Rattle.panel_crossing.proofs.Laws.{speaks-by}
 use Rattle.panel_crossing.proofs.say.Goals as goal
 
@@ -9,13 +10,14 @@ pub returns-then-told-lt-REPLY : goal.returns-then-told-lt-REPLY
 unfolding cross_speak
 returns-then-told-lt-REPLY c = rw (lt-ltb _ _ c.if-told-lt-REPLY.true)
 
-pub returns-in-Refused : goal.returns-in-Refused
-returns-in-Refused c =
+pub returns-in-Err : goal.returns-in-Err
+returns-in-Err c =
     let a = c.args in
-    speaks-by a.settings.now c.table_in-table.ensures c.in-Refused.is a.kind a.numbers.now a.lent.now a.out.now a.told.now c.if-told-lt-REPLY.false
+    ap (spoke a.out.now a.told.now) c.number.ensures
+    ∙ speaks-by a.settings.now c.table_in.ensures (ap lent_of c.in-Err.is) a.kind a.numbers.now a.lent.now a.out.now a.told.now c.if-told-lt-REPLY.false
 
-pub returns-in-Ids : goal.returns-in-Ids
-returns-in-Ids c =
+pub returns-in-Ok : goal.returns-in-Ok
+returns-in-Ok c =
     let a = c.args in
     c.say_numbered.ensures
-    ∙ speaks-by a.settings.now c.table_in-table.ensures c.in-Ids.is a.kind a.numbers.now a.lent.now a.out.now a.told.now c.if-told-lt-REPLY.false
+    ∙ speaks-by a.settings.now c.table_in.ensures (ap lent_of c.in-Ok.is) a.kind a.numbers.now a.lent.now a.out.now a.told.now c.if-told-lt-REPLY.false

@@ -7,14 +7,14 @@ use lib.Dec.{ltb}
 use lib.ListN.{length}
 use Rattle.protocol.specs.Messages.{word, data_most}
 use Rattle.panel_reply.specs.Replies.{with_length}
-use Rattle.panel_writer.proofs.Laws.{written_out}
+use Rattle.panel_writer.proofs.Laws.{taken_out}
 use Rattle.panel_writer.proofs.say_chunk.Goals as goal
 
 pub returns-then-bytes-gt-MAX_DATA : goal.returns-then-bytes-gt-MAX_DATA
 returns-then-bytes-gt-MAX_DATA c =
     let a = c.args in
     let x = a.bytes.now in
-    written_out (ltb (length x) (suc data_most)) (word a.id ++ with_length x) a.out.now (rw (le-ltb (length x) (suc data_most) (omega (arith, c.if-bytes-gt-MAX_DATA.true))))
+    taken_out (ltb (length x) (suc data_most)) (word a.id ++ with_length x) a.out.now (rw (le-ltb (length x) (suc data_most) (omega (arith, c.if-bytes-gt-MAX_DATA.true))))
 
 pub returns : goal.returns
 returns c =

@@ -1,20 +1,20 @@
 -- `panel_writer::say_stat` meets its contract.
 use mathlib.Core.Bool.{true}
 use mathlib.Core.List.{◌++◌}
-use mathlib.Core.Path.{refl}
+use mathlib.Core.Path.{refl, sym, ◌∙◌}
+use native.Mathlib.Omega.{arith}
 use borrow.Author.Tests.{lt-leb}
 use Rattle.protocol.specs.Messages.{word}
-use Rattle.format_record.specs.Told.{told_stat}
-use Rattle.panel_reply.specs.Replies.{stat_fields}
-use Rattle.panel_writer.proofs.Laws.{written_out, written_in}
+use Rattle.panel_writer.proofs.Laws.{taken_out, taken_in}
 use Rattle.panel_writer.proofs.say_stat.Goals as goal
 
-pub returns-then-out-lt-STAT_V1_SIZE : goal.returns-then-out-lt-STAT_V1_SIZE
-returns-then-out-lt-STAT_V1_SIZE c =
+pub returns-then-out-SIZE : goal.returns-then-out-SIZE
+returns-then-out-SIZE g c =
     let a = c.args in
-    written_out true (word a.id ++ stat_fields (told_stat a.s)) a.out.now (lt-leb _ _ c.if-out-lt-STAT_V1_SIZE.true)
+    taken_out true (word a.id ++ g.S.Fields.fields a.s) a.out.now (lt-leb _ _ (omega (arith, c.SIZE.ensures, g.met.S.Fields.sized a.id a.s, c.if-out-SIZE.true)))
 
 pub returns : goal.returns
-returns c =
+returns g c =
     let a = c.args in
-    written_in true (word a.id ++ stat_fields (told_stat a.s)) a.out.now refl c.if-out-lt-STAT_V1_SIZE.false c.put_stat.ensures refl
+    let e = g.met.S.Fields.sized a.id a.s in
+    taken_in true (word a.id ++ g.S.Fields.fields a.s) a.out.now refl (omega (arith, e)) c.put_stat.ensures (c.SIZE-2.ensures ∙ sym e)

@@ -9,7 +9,7 @@ returns-in-Stat c = replied _ _ _ _ c.in-Stat.is c.number.ensures c.say_stat.ens
 
 pub returns-in-StatV2 : goal.returns-in-StatV2
 unfolding behind_id is_short
-returns-in-StatV2 c = replied _ _ _ _ c.in-StatV2.is c.number-in-StatV2.ensures c.say_stat_v2.ensures
+returns-in-StatV2 c = replied _ _ _ _ c.in-StatV2.is c.number-in-StatV2.ensures c.say_stat-in-StatV2.ensures
 
 pub returns-in-Entry : goal.returns-in-Entry
 unfolding behind_id is_short
@@ -17,15 +17,21 @@ returns-in-Entry c = replied _ _ _ _ c.in-Entry.is c.number-in-Entry.ensures c.s
 
 pub returns-in-EntryV2 : goal.returns-in-EntryV2
 unfolding behind_id is_short
-returns-in-EntryV2 c = replied _ _ _ _ c.in-EntryV2.is c.number-in-EntryV2.ensures c.say_entry_v2.ensures
+returns-in-EntryV2 c = replied _ _ _ _ c.in-EntryV2.is c.number-in-EntryV2.ensures c.say_entry-in-EntryV2.ensures
 
 pub returns-in-ListingEnd : goal.returns-in-ListingEnd
 unfolding behind_id is_short
-returns-in-ListingEnd c = replied _ _ _ _ c.in-ListingEnd.is c.number-in-ListingEnd.ensures c.say_entry-in-ListingEnd.ensures
+returns-in-ListingEnd c =
+    let z = c.default.ensures in
+    replied _ _ _ _ c.in-ListingEnd.is c.number-in-ListingEnd.ensures (rw (z.0, z.1.0, z.1.1) at c.say_entry-in-ListingEnd.ensures)
 
 pub returns-in-ListingEndV2 : goal.returns-in-ListingEndV2
 unfolding behind_id is_short
-returns-in-ListingEndV2 c = replied _ _ _ _ c.in-ListingEndV2.is c.number-in-ListingEndV2.ensures c.say_entry_v2-in-ListingEndV2.ensures
+returns-in-ListingEndV2 c =
+    let z = c.default-in-ListingEndV2.ensures in
+    let times = z.1.1.1.1.1.1.1.1 in
+    replied _ _ _ _ c.in-ListingEndV2.is c.number-in-ListingEndV2.ensures
+    (rw (z.0, z.1.0, z.1.1.0, z.1.1.1.0, z.1.1.1.1.0, z.1.1.1.1.1.0, z.1.1.1.1.1.1.0, z.1.1.1.1.1.1.1.0, times.0, times.1.0, times.1.1) at c.say_entry-in-ListingEndV2.ensures)
 
 pub returns-in-Chunk : goal.returns-in-Chunk
 unfolding behind_id is_short

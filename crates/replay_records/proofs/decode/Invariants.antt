@@ -1,11 +1,9 @@
--- `replay_records::decode` is safe and ends: the count stays within out.
-use mathlib.Core.Path.{◌≡◌}
-use Prim.Native.Nat.{◌≤◌, ◌-◌, ◌+◌}
-use lib.ListN.{length}
+-- `replay_records::decode` is safe and ends: the count stays within out, and each turn takes a byte.
+use Rattle.std.proofs.Common.{◌≤◌, length}
 use Rattle.replay_records.proofs.decode.Given as goal
 
-abbrev pub invariant-loop-i : goal.invariant-loop-i
-invariant-loop-i l = (length l.out ≡ length l.initial.out) × (l.n ≤ length l.out) × (l.i ≤ length l.text + 1)
+abbrev pub invariant-loop-left : goal.invariant-loop-left
+invariant-loop-left l = l.n ≤ length l.out
 
-abbrev pub decreases-loop-i : goal.decreases-loop-i
-decreases-loop-i l = length l.text - l.i
+abbrev pub decreases-loop-left : goal.decreases-loop-left
+decreases-loop-left l = length l.left

@@ -6,12 +6,8 @@ use Rattle.protocol.specs.Messages.{word}
 use Rattle.request_message.proofs.Laws.{front_bytes, begun-out, begin-puts}
 use Rattle.request_message.proofs.begin.Goals as goal
 
-pub returns-then-out-fixed : goal.returns-then-out-fixed
-returns-then-out-fixed c =
-    let a = c.args in record { result_after = begun-out a.out.now (word a.id ++ word a.count ++ a.lent.now) a.rest (omega (arith, front_bytes a.id a.count a.lent.now)); upper_bound = search rules }
-
-pub returns-then-room-lent : goal.returns-then-room-lent
-returns-then-room-lent c =
+pub returns-then-out-lent : goal.returns-then-out-lent
+returns-then-out-lent c =
     let a = c.args in record { result_after = begun-out a.out.now (word a.id ++ word a.count ++ a.lent.now) a.rest (omega (arith, front_bytes a.id a.count a.lent.now)); upper_bound = search rules }
 
 pub returns : goal.returns

@@ -7,10 +7,7 @@ use Rattle.protocol.proofs.Modes.{mode-decimal, mode-octal, mode-long}
 use Rattle.request_mode.proofs.parse_mode.Goals as goal
 
 pub returns-then-text-lt2 : goal.returns-then-text-lt2
-returns-then-text-lt2 c = c.parse_u32.ensures ∙ sym (mode-decimal _ (λ h. absurd (omega arith)))
-
-pub returns-then-text-ne48 : goal.returns-then-text-ne48
-returns-then-text-ne48 c = c.parse_u32-then-text-ne48.ensures ∙ sym (mode-decimal _ (λ h. c.if-text-ne48.true))
+returns-then-text-lt2 c = c.parse_u32.ensures ∙ sym (mode-decimal _ (λ h e. grind arith))
 
 pub returns-then-text-gt-MAX_MODE : goal.returns-then-text-gt-MAX_MODE
 returns-then-text-gt-MAX_MODE c = sym (mode-long _ c.if-text-gt-MAX_MODE.true c.if-text-ne48.false)

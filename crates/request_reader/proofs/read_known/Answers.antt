@@ -1,10 +1,11 @@
 -- `request_reader::read_known` meets its contract.
+use mathlib.Core.Logic.{inl, inr}
 use mathlib.Core.Option.{some}
 use mathlib.Core.Path.{◌≡◌, refl, sym, ap, ◌∙◌}
 use Rattle.format_id.specs.Ids.{id_of}
 use Rattle.protocol.specs.Ids.{Id, STAT, STA2, LIST, LIS2, SEND, SND2, RECV, RCV2, DATA, DONE, OKAY, FAIL, DENT, DNT2, QUIT}
 use Rattle.protocol.specs.Messages.{stat, sta2, list, lis2, recv}
-use Rattle.protocol.specs.Requests.{Read, time, foreign, kind_of, arg_ok, following, body_of, on_id}
+use Rattle.protocol.specs.Requests.{Read, refused, time, foreign, kind_of, arg_ok, following, body_of, on_id}
 use Rattle.request_reader.specs.Meaning.{own, on_arg}
 use Rattle.request_reader.proofs.Parts.{on-path}
 use Rattle.request_reader.proofs.Steps.{on-refused, on-whole, on-known}
@@ -56,22 +57,17 @@ returns-in-Done c =
 pub returns-in-Quit : goal.returns-in-Quit
 returns-in-Quit c = arm (goal.at.returns-in-Quit c).After-u32_at-arg QUIT _ (ap id_of c.in-Quit.is) c.read_quit.ensures
 
+-- an id that no request has
+foreign-id : (c : After-u32_at-arg) (i : Id) → kind_of i ≡ foreign → id_of c.args.id ≡ i → refused ≡ on_id (own (c.args.s.now)) (c.args.s.now) (some (id_of c.args.id))
+unfolding arg_ok
+foreign-id c i k e = arm c i refused e (rw k (sym (on-refused foreign c.u32_at-arg.result (c.args.s.now) refl)))
+
 pub returns-in-Okay : goal.returns-in-Okay
-unfolding arg_ok
 returns-in-Okay c =
-    arm (goal.at.returns-in-Okay c).After-u32_at-arg OKAY _ (ap id_of c.in-Okay.is) (sym (on-refused foreign c.u32_at-arg.result (c.args.s.now) refl))
-
-pub returns-in-Fail : goal.returns-in-Fail
-unfolding arg_ok
-returns-in-Fail c =
-    arm (goal.at.returns-in-Fail c).After-u32_at-arg FAIL _ (ap id_of c.in-Fail.is) (sym (on-refused foreign c.u32_at-arg.result (c.args.s.now) refl))
-
-pub returns-in-Dent : goal.returns-in-Dent
-unfolding arg_ok
-returns-in-Dent c =
-    arm (goal.at.returns-in-Dent c).After-u32_at-arg DENT _ (ap id_of c.in-Dent.is) (sym (on-refused foreign c.u32_at-arg.result (c.args.s.now) refl))
-
-pub returns-in-Dnt2 : goal.returns-in-Dnt2
-unfolding arg_ok
-returns-in-Dnt2 c =
-    arm (goal.at.returns-in-Dnt2 c).After-u32_at-arg DNT2 _ (ap id_of c.in-Dnt2.is) (sym (on-refused foreign c.u32_at-arg.result (c.args.s.now) refl))
+    let here = (goal.at.returns-in-Okay c).After-u32_at-arg in
+    elim c.in-Okay.is [
+      | inl e ↦ foreign-id here OKAY refl (ap id_of e)
+      | inr (inl e) ↦ foreign-id here FAIL refl (ap id_of e)
+      | inr (inr (inl e)) ↦ foreign-id here DENT refl (ap id_of e)
+      | inr (inr (inr e)) ↦ foreign-id here DNT2 refl (ap id_of e)
+    ]

@@ -1,10 +1,14 @@
 -- `request_reader::read_rcv2` meets its contract.
-use Rattle.request_reader.proofs.Parts.{told-staged, on-flags}
+use borrow.Author.Rules.{rules}
+use Rattle.request_reader.proofs.Parts.{on-flags}
 use Rattle.request_reader.proofs.read_rcv2.Goals as goal
+
+pub returns-in_err-words_part : goal.returns-in_err-words_part
+returns-in_err-words_part c =
+    let f = c.u32_at in
+    rw (on-flags c.args.n f.result c.args.s.now f.ensures, ← c.words_part.ensures) (search rules)
 
 pub returns : goal.returns
 returns c =
     let f = c.u32_at in
-    let part = c.words_part-part in
-    let law = on-flags c.args.n f.result c.args.s.now f.ensures in
-    rw (c.answer.ensures, told-staged c.args.s.now part.result _ c.args.n _, part.ensures, law)
+    rw (on-flags c.args.n f.result c.args.s.now f.ensures, ← c.words_part.ensures) (search rules)

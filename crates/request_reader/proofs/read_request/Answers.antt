@@ -26,14 +26,14 @@ returns-then-s-lt8 c = sym (more-short (dialect_of c.args.ids) _ c.if-s-lt8.true
 pub read_known-requires : goal.read_known-requires
 read_known-requires c = (found (goal.at.read_known-requires c).After-from_bytes).0
 
-pub returns-in-Nothing : goal.returns-in-Nothing
-returns-in-Nothing c =
+pub returns-in-None : goal.returns-in-None
+returns-in-None c =
     let a = c.args in
-    let (long, id) = found (goal.at.returns-in-Nothing c).After-from_bytes in
-    sym (on_none (table_of a.ids) a.s.now long (id ∙ ap found_id c.in-Nothing.is))
+    let (long, id) = found (goal.at.returns-in-None c).After-from_bytes in
+    sym (on_none (table_of a.ids) a.s.now long (id ∙ ap found_id c.in-None.is))
 
-pub returns-in-Id : goal.returns-in-Id
-returns-in-Id c =
+pub returns-in-Some : goal.returns-in-Some
+returns-in-Some c =
     let a = c.args in
-    let (long, id) = found (goal.at.returns-in-Id c).After-from_bytes in
-    c.read_known.ensures ∙ sym (on_some (table_of a.ids) a.s.now long (id_of c.in-Id.id) (id ∙ ap found_id c.in-Id.is))
+    let (long, id) = found (goal.at.returns-in-Some c).After-from_bytes in
+    c.read_known.ensures ∙ sym (on_some (table_of a.ids) a.s.now long (id_of c.in-Some.id) (id ∙ ap found_id c.in-Some.is))

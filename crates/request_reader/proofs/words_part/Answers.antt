@@ -2,40 +2,36 @@
 use mathlib.Core.Path.{◌≡◌, sym, ◌∙◌}
 use native.Mathlib.Omega.{arith}
 use borrow.Author.Rules.{rules}
+use Rattle.std.specs.Prelude.{Ok}
 use Rattle.request_reader.specs.Meaning.{part_of, words_of}
 use Rattle.request_reader.proofs.Parts.{part-whole}
-use Rattle.request_reader.specs.declared.Part.TheVariants as T
-use Rattle.request_reader.proofs.words_part.Goals.{In-Whole}
+use Rattle.request_reader.proofs.words_part.Goals.{In_ok-path_part}
 use Rattle.request_reader.proofs.words_part.Goals as goal
 
--- in the third arm the message is there, and its path is good
-there : (c : In-Whole) → (let a = c.args in part_of a.n a.behind a.s.now ≡ T.Whole)
-there c = sym c.path_part.ensures ∙ c.in-Whole.is
+-- where the first test passes the message is there, and its path good
+there : (c : In_ok-path_part) → (let a = c.args in part_of a.n a.behind a.s.now ≡ Ok tt)
+there c = sym c.path_part.ensures ∙ c.in_ok-path_part.was
 
-pub overflow_add-at : goal.overflow_add-at
-overflow_add-at c =
+pub returns-in_err-path_part : goal.returns-in_err-path_part
+unfolding words_of
+returns-in_err-path_part c = rw (← c.path_part.ensures, c.in_err-path_part.was) (search rules)
+
+pub overflow_add-n : goal.overflow_add-n
+overflow_add-n c =
     let a = c.args in
-    let fits = part-whole a.n a.behind a.s.now (there c) in
+    let fits = part-whole a.n a.behind a.s.now (there (goal.at.overflow_add-n c).In_ok-path_part) in
     search rules
 
 pub words_refused-requires : goal.words_refused-requires
 words_refused-requires c =
     let a = c.args in
-    let fits = part-whole a.n a.behind a.s.now (there c) in
+    let fits = part-whole a.n a.behind a.s.now (there (goal.at.words_refused-requires c).In_ok-path_part) in
     (omega arith, omega arith)
 
 pub returns-then-words_refused : goal.returns-then-words_refused
 unfolding words_of
-returns-then-words_refused c = rw (there (goal.at.returns-then-words_refused c).In-Whole, sym c.words_refused.ensures ∙ c.if-words_refused.true)
+returns-then-words_refused c = rw (there (goal.at.returns-then-words_refused c).In_ok-path_part, sym c.words_refused.ensures ∙ c.if-words_refused.true)
 
-pub returns-in-More : goal.returns-in-More
+pub returns : goal.returns
 unfolding words_of
-returns-in-More c = rw (sym c.path_part.ensures ∙ c.in-More.is)
-
-pub returns-in-Refused : goal.returns-in-Refused
-unfolding words_of
-returns-in-Refused c = rw (sym c.path_part.ensures ∙ c.in-Refused.is)
-
-pub returns-else-words_refused : goal.returns-else-words_refused
-unfolding words_of
-returns-else-words_refused c = rw (there (goal.at.returns-else-words_refused c).In-Whole, sym c.words_refused.ensures ∙ c.if-words_refused.false)
+returns c = rw (there (goal.at.returns c).In_ok-path_part, sym c.words_refused.ensures ∙ c.if-words_refused.false)

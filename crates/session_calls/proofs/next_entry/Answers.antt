@@ -12,13 +12,13 @@ use mathlib.Core.Path.{ap, ◌∙◌}
 use Rattle.session.specs.declared.Want.TheVariants as W
 use Rattle.session_calls.proofs.next_entry.Goals as goal
 
-pub returns-then-n-gt0 : goal.returns-then-n-gt0
+pub returns-in-Err : goal.returns-in-Err
 unfolding entry_call
-returns-then-n-gt0 c = out_eq _ _ c.refusing.ensures ∙ unless_out _ _ _ _ c.call_refusal-n.ensures c.if-n-gt0.true
+returns-in-Err c = out_eq _ _ c.misused.ensures ∙ unless_out _ _ _ _ c.in-Err.ensures
 
 pub returns : goal.returns
 returns c =
     let a = c.args in
     c.read_on.ensures
-    ∙ ap (λ (z : Session). guarded (st z a.rx.now a.msg.now) (read_on (st z a.rx.now a.msg.now) (Header (W.Entry a.v)) false)) c.begun-begun.ensures
-    ∙ entry_in_lem (st a.s a.rx.now a.msg.now) _ c.call_refusal-n.ensures c.if-n-gt0.false a.lent a.v
+    ∙ ap (λ (z : Session). guarded (st z a.rx.now a.msg.now) (read_on (st z a.rx.now a.msg.now) (Header (W.Entry a.v)) false)) c.begun.ensures
+    ∙ entry_in_lem (st a.s a.rx.now a.msg.now) c.in_default.ensures a.lent a.v

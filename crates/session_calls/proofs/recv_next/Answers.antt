@@ -13,9 +13,9 @@ use mathlib.Core.Path.{ap, ◌∙◌}
 use Rattle.session.specs.declared.Want.TheVariants as W
 use Rattle.session_calls.proofs.recv_next.Goals as goal
 
-pub returns-then-n-gt0 : goal.returns-then-n-gt0
+pub returns-in-Err : goal.returns-in-Err
 unfolding chunk_call
-returns-then-n-gt0 c = out_eq _ _ c.refusing.ensures ∙ unless_out _ _ _ _ c.call_refusal-n.ensures c.if-n-gt0.true
+returns-in-Err c = out_eq _ _ c.misused.ensures ∙ unless_out _ _ _ _ c.in-Err.ensures
 
 pub returns : goal.returns
 returns c =
@@ -23,4 +23,4 @@ returns c =
     c.read_on.ensures
     ∙ ap (λ (z : St). guarded z (read_on z (Header W.Chunk) false))
     (c.tidy-front.ensures a.msg.now ∙ ap (λ (z : Session). tidied (st z a.rx.now a.msg.now)) c.begun-begun.ensures)
-    ∙ chunk_in (st a.s a.rx.now a.msg.now) _ c.call_refusal-n.ensures c.if-n-gt0.false a.lent
+    ∙ chunk_in (st a.s a.rx.now a.msg.now) c.in_default.ensures a.lent

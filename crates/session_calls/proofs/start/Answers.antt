@@ -7,24 +7,20 @@ use Rattle.session.specs.State.{st}
 use mathlib.Core.Path.{◌∙◌}
 use Rattle.session_calls.proofs.start.Goals as goal
 
-pub returns-then-n-gt0 : goal.returns-then-n-gt0
+pub returns-in-Err : goal.returns-in-Err
 unfolding start_call
-returns-then-n-gt0 c = out_eq _ _ c.refusing.ensures ∙ unless_out _ _ _ _ c.call_refusal-n.ensures c.if-n-gt0.true
+returns-in-Err c = out_eq _ _ c.misused.ensures ∙ unless_out _ _ _ _ c.in-Err.ensures
 
-pub returns-in-Fine : goal.returns-in-Fine
-returns-in-Fine c =
+pub returns-in-Ok : goal.returns-in-Ok
+returns-in-Ok c =
     let a = c.args in
     beside-eq _ c.first.ensures
-    ∙ start-in (st a.s a.rx.now a.msg.now) _ c.call_refusal-n.ensures c.if-n-gt0.false a.q a.lent.now _ _ c.in-Fine.is c.check_request-check.ensures
+    ∙ start-in (st a.s a.rx.now a.msg.now) c.in_default.ensures a.q a.lent.now _ _ c.in-Ok.is c.check_request.ensures
 
-pub returns-in-Refused : goal.returns-in-Refused
-returns-in-Refused c =
+pub returns-in-Err-check_request : goal.returns-in-Err-check_request
+returns-in-Err-check_request c =
     let a = c.args in
-    out_eq _ _ c.refusing-in-Refused.ensures
-    ∙ start-in (st a.s a.rx.now a.msg.now) _ c.call_refusal-n.ensures c.if-n-gt0.false a.q a.lent.now _ _ c.in-Refused.is c.check_request-check.ensures
-
-pub returns-in-Missing : goal.returns-in-Missing
-returns-in-Missing c =
-    let a = c.args in
-    out_eq _ _ c.refusing-in-Missing.ensures
-    ∙ start-in (st a.s a.rx.now a.msg.now) _ c.call_refusal-n.ensures c.if-n-gt0.false a.q a.lent.now _ _ c.in-Missing.is c.check_request-check.ensures
+    out_eq _ _ c.refusing.ensures
+    ∙ rw
+    c.answer.ensures
+    (start-in (st a.s a.rx.now a.msg.now) c.in_default.ensures a.q a.lent.now _ _ c.in-Err-check_request.is c.check_request.ensures)

@@ -8,21 +8,21 @@ use Rattle.session.specs.declared.Pending.{Pending}
 use mathlib.Core.Path.{ap, ◌∙◌}
 use Rattle.session_faults.proofs.fault.Goals as goal
 
-pub returns-then-number-gt0 : goal.returns-then-number-gt0
+pub returns-in-Err : goal.returns-in-Err
 unfolding report_fault
-returns-then-number-gt0 c = out_eq _ _ c.refusing.ensures ∙ unless_out _ _ _ _ c.report_refusal-number.ensures c.if-number-gt0.true
+returns-in-Err c = out_eq _ _ c.misused.ensures ∙ unless_out _ _ _ _ c.in-Err.ensures
 
 pub write_fault-requires : goal.write_fault-requires
 write_fault-requires c =
     let a = c.args in
-    admitted (st a.s a.rx.now a.msg.now) _ a.lent c.report_refusal-number.ensures c.if-number-gt0.false
+    admitted (st a.s a.rx.now a.msg.now) a.lent c.in_default.ensures
 
 pub returns-in-Reading : goal.returns-in-Reading
 unfolding report_fault fault_at
 returns-in-Reading c =
     let a = c.args in
     let s = st a.s a.rx.now a.msg.now in
-    reported s _ _ c.report_refusal-number.ensures c.if-number-gt0.false (λ (p : Pending). fault_at p s a.e) c.in-Reading.is
+    reported s _ c.in_default.ensures (λ (p : Pending). fault_at p s a.e) c.in-Reading.is
     (out_eq _ _ c.read_fault.ensures)
 
 pub returns-in-Writing : goal.returns-in-Writing
@@ -30,7 +30,7 @@ unfolding report_fault fault_at
 returns-in-Writing c =
     let a = c.args in
     let s = st a.s a.rx.now a.msg.now in
-    reported s _ _ c.report_refusal-number.ensures c.if-number-gt0.false (λ (p : Pending). fault_at p s a.e) c.in-Writing.is
+    reported s _ c.in_default.ensures (λ (p : Pending). fault_at p s a.e) c.in-Writing.is
     c.write_fault.ensures
 
 pub returns-in-Closing : goal.returns-in-Closing
@@ -38,7 +38,7 @@ unfolding report_fault fault_at
 returns-in-Closing c =
     let a = c.args in
     let s = st a.s a.rx.now a.msg.now in
-    reported s _ _ c.report_refusal-number.ensures c.if-number-gt0.false (λ (p : Pending). fault_at p s a.e) c.in-Closing.is
+    reported s _ c.in_default.ensures (λ (p : Pending). fault_at p s a.e) c.in-Closing.is
     (c.close.ensures _ _ ∙ ap (closed_out s c.in-Closing.failed c.in-Closing.code) c.fault_answer.ensures)
 
 pub returns-in-Idle : goal.returns-in-Idle
@@ -46,5 +46,5 @@ unfolding report_fault fault_at
 returns-in-Idle c =
     let a = c.args in
     let s = st a.s a.rx.now a.msg.now in
-    reported s _ _ c.report_refusal-number.ensures c.if-number-gt0.false (λ (p : Pending). fault_at p s a.e) c.in-Idle.is
-    (out_eq _ _ c.refusing-in-Idle.ensures)
+    reported s _ c.in_default.ensures (λ (p : Pending). fault_at p s a.e) c.in-Idle.is
+    (out_eq _ _ c.misused-in-Idle.ensures)

@@ -1,6 +1,5 @@
 -- `session_faults::push_fault` meets its contract.
 use Rattle.session_phases.proofs.Turns.{case}
-use Rattle.session_pump.proofs.Parts.{out_eq}
 use Rattle.session.proofs.Misfit.{guarded-in}
 use Rattle.session.specs.Reports.{push_fault}
 use Rattle.session.specs.State.{st}
@@ -11,8 +10,3 @@ pub returns-in-Closed : goal.returns-in-Closed
 returns-in-Closed c =
     let a = c.args in
     case (push_fault (st a.s a.rx.now a.msg.now)) c.in-Closed.is (c.read_on.ensures ∙ guarded-in _ _ c.requires)
-
-pub returns-in-Error : goal.returns-in-Error
-returns-in-Error c =
-    let a = c.args in
-    case (push_fault (st a.s a.rx.now a.msg.now)) c.in-Error.is (out_eq _ _ c.answering.ensures)

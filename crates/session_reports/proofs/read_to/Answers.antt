@@ -13,5 +13,5 @@ pub returns : goal.returns
 returns c =
     let a = c.args in
     c.read_on.ensures
-    ∙ ap (λ (z : Session). guarded (st z a.rx.now a.msg.now) (read_on (st z a.rx.now a.msg.now) a.phase a.lost)) c.at-session.ensures
+    ∙ ap (λ (z : Session). guarded (st z a.rx.now a.msg.now) (read_on (st z a.rx.now a.msg.now) a.phase a.lost)) c.at.ensures
     ∙ guarded-in _ _ (good-at (st a.s a.rx.now a.msg.now) a.buf a.rx.now a.msg.now Idle c.requires.0 c.requires.1 c.requires.2 refl refl)

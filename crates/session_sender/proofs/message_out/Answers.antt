@@ -8,15 +8,15 @@ use mathlib.Core.Path.{ap, ◌∙◌}
 use Rattle.session.specs.declared.Reply.TheVariants as R
 use Rattle.session_sender.proofs.message_out.Goals as goal
 
-pub returns-then-n-eq0 : goal.returns-then-n-eq0
-returns-then-n-eq0 c =
+pub returns-in_default : goal.returns-in_default
+returns-in_default c =
     let a = c.args in
     let own = c.id_for-id.ensures in
-    half-eq _ (piece_sent_lem a.q a.from (length a.part.now) 0 c.at-idle.ensures own c.piece_at-p.ensures.value c.send_piece.ensures)
-    ∙ pieces-out a.s a.rx.now a.q a.from a.part.now _ _ c.compact-c.ensures _ own _ _ c.compose_at-n.ensures c.if-n-eq0.true
+    half-eq _ (piece_sent_lem a.q a.from (length a.part.now) 0 c.at-idle.ensures own c.piece_at.ensures.value c.send_piece.ensures)
+    ∙ pieces-out a.s a.rx.now a.q a.from a.part.now _ _ c.compact-buf.ensures _ own _ _ c.compose_at.ensures c.in_default.is
 
 pub returns : goal.returns
 returns c =
     let a = c.args in
-    half-eq _ (ap (λ (z : Session). stepped z (R.WriteRx c.compact-c.result.tail c.compose_at-n.result)) c.at-session.ensures)
-    ∙ whole_out a.s a.rx.now a.q a.from a.part.now _ _ c.compact-c.ensures _ c.id_for-id.ensures _ _ c.compose_at-n.ensures c.if-n-eq0.false
+    half-eq _ (ap (λ (z : Session). stepped z (R.WriteRx c.compact-buf.result.tail c.in-Some.len)) c.at.ensures)
+    ∙ whole_out a.s a.rx.now a.q a.from a.part.now _ _ c.compact-buf.ensures _ c.id_for-id.ensures _ _ c.compose_at.ensures c.in-Some.len c.in-Some.is

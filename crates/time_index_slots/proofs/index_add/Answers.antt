@@ -1,6 +1,7 @@
 -- `time_index_slots::index_add` meets its contract.
 use mathlib.Core.Bool.{true, ◌&&◌}
-use mathlib.Core.Path.{◌≡◌, sym, subst, ◌∙◌}
+use mathlib.Core.Path.{◌≡◌, sym, ap, ◌∙◌}
+use Rattle.std.specs.Prelude.{Ok, None}
 use native.Mathlib.Omega.{arith}
 use lib.Dec.{leb}
 use lib.ListN.{length}
@@ -23,31 +24,22 @@ returns-then-not-is_answered c =
     let a = c.args in
     add_refused a.slots.now a.area.now a.told a.reply.now a.rx.now (sym c.is_answered.ensures ∙ c.if-not-is_answered.true)
 
-pub overflow_add-end : goal.overflow_add-end
-overflow_add-end c =
-    -- the name lies in the receive buffer
-    let inside = subst (Inside c.args.rx.now) c.in-Entry.is c.offered_by-o.ensures.1 in
-    omega (arith, inside, c.type_inv.reply 0)
-
-pub take_entry-requires : goal.take_entry-requires
-take_entry-requires c =
-    let a = c.args in
-    still-index a.slots.now a.area.now a.told a.reply.now a.rx.now (answered (goal.at.take_entry-requires c).Else-not-is_answered) c.offered_by-o.result c.offered_by-o.ensures.0
-
-pub returns-in-Nothing : goal.returns-in-Nothing
+pub returns-in-Ok-None : goal.returns-in-Ok-None
 unfolding added
-returns-in-Nothing c =
+returns-in-Ok-None c =
     let a = c.args in
-    add_offered a.slots.now a.area.now a.told a.reply.now a.rx.now (answered (goal.at.returns-in-Nothing c).Else-not-is_answered) _ c.offered_by-o.ensures.0 _ c.in-Nothing.is
+    add_offered a.slots.now a.area.now a.told a.reply.now a.rx.now (answered (goal.at.returns-in-Ok-None c).Else-not-is_answered) _ c.offered_by.ensures.0 (Ok None)
+    (c.in-Ok-None.is ∙ ap Ok c.in-Ok-None.field-0-is)
 
-pub returns-in-Unknown : goal.returns-in-Unknown
+pub returns-in-Err : goal.returns-in-Err
 unfolding added
-returns-in-Unknown c =
+returns-in-Err c =
     let a = c.args in
-    add_offered a.slots.now a.area.now a.told a.reply.now a.rx.now (answered (goal.at.returns-in-Unknown c).Else-not-is_answered) _ c.offered_by-o.ensures.0 _ c.in-Unknown.is
+    add_offered a.slots.now a.area.now a.told a.reply.now a.rx.now (answered (goal.at.returns-in-Err c).Else-not-is_answered) _ c.offered_by.ensures.0 _ c.in-Err.is
 
-pub returns-in-Entry : goal.returns-in-Entry
-returns-in-Entry c =
+pub returns-in-Ok-Some : goal.returns-in-Ok-Some
+returns-in-Ok-Some c =
     let a = c.args in
     c.take_entry.ensures
-    ∙ add_part a.slots.now a.area.now a.told a.reply.now a.rx.now (answered (goal.at.returns-in-Entry c).Else-not-is_answered) _ c.offered_by-o.ensures.0 _ _ _ c.in-Entry.is
+    ∙ add_part a.slots.now a.area.now a.told a.reply.now a.rx.now (answered (goal.at.returns-in-Ok-Some c).Else-not-is_answered) _ c.offered_by.ensures.0 _
+    (c.in-Ok-Some.is ∙ ap Ok c.in-Ok-Some.field-0-is)

@@ -73,7 +73,7 @@ returns-then-n-rank c =
     let n = counted (goal.at.returns-then-n-rank c).After-u64_at-n in
     let a = c.args in
     let low : count_in a.slots.now ≤ a.rank = omega arith in
-    rw (answered (goal.at.returns-then-n-rank c).Else-not-is_answered, le-ltb _ _ low) (ap (λ (l : List ℕ). laid l 0) c.put_five.ensures)
+    rw (answered (goal.at.returns-then-n-rank c).Else-not-is_answered, le-ltb _ _ low) (ap (λ (l : List ℕ). laid l 0) c.put_u64s.ensures)
 
 pub overflow_mul-at : goal.overflow_mul-at
 overflow_mul-at c = let r = room c in omega arith
@@ -110,4 +110,4 @@ returns c =
     let within : start_at s a.rank + length_at s a.rank ≤ used_in s = omega arith in
     let time = number_read 8 s (slot_at a.rank) (omega arith) c.u64_at-2.ensures in
     rw (answered (goal.at.returns c).Else-not-is_answered, lt-ltb _ _ (inside (goal.at.returns c).Else-n-rank), le-leb _ _ within)
-    (ap (λ (m : List ℕ). laid m 0) (entry-put a.out.now s a.rank c.put_five-2.ensures b l time))
+    (ap (λ (m : List ℕ). laid m 0) (entry-put a.out.now s a.rank c.put_u64s-2.ensures b l time))

@@ -13,6 +13,7 @@ use Rattle.record.specs.Fields.{unsigned}
 use Rattle.record.specs.Record.{words}
 use Rattle.time_index.specs.Slots.{is_index, count_in, slot_at, up_to, below}
 use Rattle.time_index.specs.Crossing.{laid, cross_index_latest}
+use Rattle.record_store.proofs.Times.{time}
 use Rattle.time_index_slots.proofs.Laws.{Index, answered-index, count-read, number_read, up_read, latest-some}
 use Rattle.time_index_slots.proofs.index_latest.Goals.{After-ranks_to-end, After-u64_at-n, Else-not-is_answered}
 use Rattle.time_index_slots.proofs.index_latest.Goals as goal
@@ -33,7 +34,7 @@ end : (c : After-ranks_to-end)
     → c.ranks_to-end.result ≡ up_to c.args.slots.now c.args.time
 end c =
     up_read c.args.slots.now c.args.time (omega (arith, c.ranges.time.sfits)) (λ i. (c.type_inv.slots i).fits)
-    c.ranks_to-end.ensures.0 c.key.ensures (c.unsigned.ensures ∙ ap unsigned (to_z-of_z c.ranges.time)) (count-read _ _ (let a = c.args in answered-index a.slots.now a.area (length a.out.now) (sym c.is_answered.ensures ∙ c.if-not-is_answered.false)) c.u64_at-n.ensures)
+    c.ranks_to-end.ensures.0 c.key.ensures (time c.args.time c.ranges.time.sfits c.cast_unsigned.ensures) (count-read _ _ (let a = c.args in answered-index a.slots.now a.area (length a.out.now) (sym c.is_answered.ensures ∙ c.if-not-is_answered.false)) c.u64_at-n.ensures)
 
 end-small : (c : After-ranks_to-end) → c.ranks_to-end.result ≤ 4096
 end-small c =
@@ -56,7 +57,7 @@ pub returns-then-end-eq0 : goal.returns-then-end-eq0
 unfolding cross_index_latest
 returns-then-end-eq0 c =
     let a = c.args in
-    rw (answered (goal.at.returns-then-end-eq0 c).Else-not-is_answered, sym (end (goal.at.returns-then-end-eq0 c).After-ranks_to-end) ∙ c.if-end-eq0.true) (ap (λ (l : List ℕ). laid l 0) c.put_two.ensures)
+    rw (answered (goal.at.returns-then-end-eq0 c).Else-not-is_answered, sym (end (goal.at.returns-then-end-eq0 c).After-ranks_to-end) ∙ c.if-end-eq0.true) (ap (λ (l : List ℕ). laid l 0) c.put_u64s.ensures)
 
 pub overflow_mul-last : goal.overflow_mul-last
 overflow_mul-last c = let k = end-small (goal.at.overflow_mul-last c).After-ranks_to-end in omega arith
@@ -80,4 +81,4 @@ returns c =
     let last = number_read 8 s (slot_at (c.ranks_to-end.result - 1)) (omega arith) c.u64_at.ensures in
     rw (answered (goal.at.returns c).Else-not-is_answered, sym (end (goal.at.returns c).After-ranks_to-end), latest-some s c.ranks_to-end.result (omega arith))
     (ap (λ (l : List ℕ). laid l 0)
-    (c.put_two-2.ensures ∙ ap (λ (f : ℕ). put a.out.now 0 (words (1 ∷ f ∷ []))) (c.ranks_below-first.ensures.0 ∙ ap (λ (x : ℕ). below s (signed x)) last)))
+    (c.put_u64s-2.ensures ∙ ap (λ (f : ℕ). put a.out.now 0 (words (1 ∷ f ∷ []))) (c.ranks_below-first.ensures.0 ∙ ap (λ (x : ℕ). below s (signed x)) last)))

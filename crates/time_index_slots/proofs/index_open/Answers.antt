@@ -18,4 +18,4 @@ unfolding cross_index_open
 returns c =
     let a = c.args in
     rw (eq-eqb _ _ c.if-slots-ne-SLOTS.false)
-    (ap (λ (l : List ℕ). laid l 0) (c.put_four.ensures ∙ put_in a.slots.now 0 (headed a.area 0 0) (omega arith)))
+    (ap (λ (l : List ℕ). laid l 0) (c.put_u64s.ensures ∙ put_in a.slots.now 0 (headed a.area 0 0) (omega arith)))

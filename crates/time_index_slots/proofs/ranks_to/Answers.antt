@@ -13,28 +13,25 @@ use Rattle.time_index_slots.proofs.ranks_to.Goals as goal
 
 -- the test of the last rank that is left
 tested : (c : After-key)
-    → key_to c.args.most (time_at c.args.slots.now (c.loop-left.left - 1))
+    → key_to c.args.most (time_at c.args.slots.now (c.loop-i.i - 1))
     ≡ leb c.key.result c.args.most
 tested c =
     let a = c.args in
     ap (λ (k : ℕ). leb k a.most)
-    (key_read a.slots.now (c.loop-left.left - 1) (λ i. (c.type_inv.slots i).fits) (omega arith) c.u64_at.ensures
+    (key_read a.slots.now (c.loop-i.i - 1) (λ i. (c.type_inv.slots i).fits) (omega arith) c.u64_at.ensures
     ∙ sym c.key.ensures)
-
-pub loop-left-init : goal.loop-left-init
-loop-left-init c = (search rules, refl)
 
 pub returns-then-key-most : goal.returns-then-key-most
 returns-then-key-most c =
     let a = c.args in
-    (sym (c.loop-left.invariant.1 ∙ ranks-last (key_to a.most) a.slots.now c.loop-left.left (omega arith) ∙ rw (tested (goal.at.returns-then-key-most c).After-key, le-leb _ _ c.if-key-most.true)), c.loop-left.invariant.0)
+    (sym (c.loop-i.invariant ∙ ranks-last (key_to a.most) a.slots.now c.loop-i.i (omega arith) ∙ rw (tested (goal.at.returns-then-key-most c).After-key, le-leb _ _ c.if-key-most.true) (omega arith)), omega arith)
 
-pub loop-left-preserved : goal.loop-left-preserved
-loop-left-preserved c =
+pub loop-i-preserved : goal.loop-i-preserved
+loop-i-preserved c =
     let a = c.args in
-    (omega arith, c.loop-left.invariant.1 ∙ ranks-last (key_to a.most) a.slots.now c.loop-left.left (omega arith) ∙ rw (tested (goal.at.loop-left-preserved c).After-key, lt-leb _ _ c.if-key-most.false))
+    c.loop-i.invariant ∙ ranks-last (key_to a.most) a.slots.now c.loop-i.i (omega arith) ∙ rw (tested (goal.at.loop-i-preserved c).After-key, lt-leb _ _ c.if-key-most.false)
 
 pub returns : goal.returns
 returns c =
     let a = c.args in
-    (sym (c.loop-left.invariant.1 ∙ ranks-zero (key_to a.most) a.slots.now c.loop-left.left (omega arith)), search rules)
+    (sym (c.loop-i.invariant ∙ ranks-zero (key_to a.most) a.slots.now c.loop-i.i (omega arith)), search rules)

@@ -4,18 +4,17 @@ use Rattle.record.proofs.Words.{word_in}
 use Rattle.totals_step.proofs.Asked.{asks-part, asks-said, asks-close}
 use Rattle.totals_step.proofs.piece_len.Goals as goal
 
-pub returns-then-what-lt-WRITES_BYTES : goal.returns-then-what-lt-WRITES_BYTES
-returns-then-what-lt-WRITES_BYTES c =
+pub returns-in-2-to-3 : goal.returns-in-2-to-3
+returns-in-2-to-3 c =
     let a = c.args in
-    c.u64_at.ensures ∙ word_in a.out.now 1 (omega arith) ∙ sym (asks-part a.n a.out.now 0 (omega arith) (omega arith))
+    c.u64_at-in-2-to-3.ensures ∙ word_in a.out.now 1 (omega arith) ∙ sym (asks-part a.n a.out.now 0 (omega arith) (omega arith))
 
-pub returns-then-what-eq-WRITES_BYTES : goal.returns-then-what-eq-WRITES_BYTES
-returns-then-what-eq-WRITES_BYTES c =
+pub returns-in-4 : goal.returns-in-4
+returns-in-4 c =
     let out = c.args.out.now in
-    let four = c.if-what-eq-WRITES_BYTES.true in
-    asks-said c.args.n out 0 four (c.u64_at-then-what-eq-WRITES_BYTES.ensures ∙ word_in out 0 (omega arith)) (c.requires.2 four)
+    asks-said c.args.n out 0 c.in-4.is (c.u64_at.ensures ∙ word_in out 0 (omega arith)) (c.requires.2 c.in-4.is)
 
-pub returns : goal.returns
-returns c =
+pub returns-in_default-2 : goal.returns-in_default-2
+returns-in_default-2 c =
     let a = c.args in
     sym (asks-close a.n a.out.now 0 (omega arith))

@@ -21,7 +21,7 @@ returns-then-n-eq0 c =
     open_in rec a.settings.now a.banner.now a.rx a.msg c.if-rec-ne-CARD.false c.session_open-n.ensures zero
     (put-none c.session_open-n.new.rec (drop size rec) (c.session_open-n.auto.rec ∙ length-take-le size rec (omega arith)) (omega (arith, length-drop size rec))
     (open_none rec a.settings.now a.banner.now a.rx a.msg c.if-rec-ne-CARD.false c.session_open-n.ensures zero)
-    c.put_four.ensures c.put_u64.ensures)
+    c.put_u64s.ensures c.put_u64.ensures)
 
 pub returns : goal.returns
 returns c =

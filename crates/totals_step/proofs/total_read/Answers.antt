@@ -82,7 +82,7 @@ returns-then-over_read c =
     (taken rec a.rx.now a.msg.now a.lent.now a.out.now a.count l.known l.window l.few l.lends)
     (over rec a.rx.now a.msg.now a.lent.now a.out.now a.count before reads c.over_read.ensures ∙ c.if-over_read.true)
     (λ h. either (received_of rec + a.count) (written_of rec) (reads_of rec + 1) h)
-    (r.0, r.1 ∙ ap (counted 5376 0) c.put_three.ensures)
+    (r.0, r.1 ∙ ap (counted 5376 0) c.put_u64s.ensures)
 
 pub slice_bounds-session_read-end-2 : goal.slice_bounds-session_read-end-2
 slice_bounds-session_read-end-2 c = sym (length-take-le size c.args.rec.now (omega arith))

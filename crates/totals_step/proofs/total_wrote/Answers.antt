@@ -79,7 +79,7 @@ returns-then-over_wrote c =
     (taken rec a.rx.now a.msg.now a.lent.now a.out.now l.known l.window l.few l.lends)
     (over rec a.rx.now a.msg.now a.lent.now a.out.now c.u64_at-before.result c.u64_at-asked.result sum c.over_wrote.ensures ∙ c.if-over_wrote.true)
     (λ h. rw h (or-true (leb limit (received_of rec))))
-    (r.0, r.1 ∙ ap (counted 5376 0) c.put_three.ensures)
+    (r.0, r.1 ∙ ap (counted 5376 0) c.put_u64s.ensures)
 
 pub slice_bounds-session_wrote-end-2 : goal.slice_bounds-session_wrote-end-2
 slice_bounds-session_wrote-end-2 c = sym (length-take-le size c.args.rec.now (omega arith))

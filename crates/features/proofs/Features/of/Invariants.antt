@@ -11,7 +11,7 @@ use Rattle.features.proofs.Features.of.Given as goal
 
 abbrev pub invariant-loop-start : goal.invariant-loop-start
 invariant-loop-start l =
-    (length l.found ≡ 8)
+    (length l.found ≡ 7)
     × ((n : ℕ) → 1 ≤ n → n ≤ 7 → has_feature l.banner (name_of n) ≡ Had l.found (pieces_from l.start l.banner) n)
 
 abbrev pub decreases-loop-start : goal.decreases-loop-start
