@@ -65,6 +65,7 @@ EDITS = [
     ('page of answers', 'it is 22, then 23', 'it is 23, then 22'),
     ('definitions', '(pick (two_equal vs) (refused equal_values) (ids vs)) (refused bad_form)',
      '(pick (two_equal vs) (refused bad_form) (ids vs)) (refused equal_values)'),
+    ('definitions', 'number (Err Refused) = 18', 'number (Err Refused) = 19'),
     ('header', 'hours 24 behind them', 'hours 22 behind them'),
     ('rust', 'hours 24 behind them', 'hours 22 behind them'),
     ('page of answers', 'hours 24 behind them', 'hours 22 behind them'),

@@ -1,5 +1,6 @@
-"""The size of the static library: what the names of four features share with a fifth stands in it once; with the kit that docs/BENCHMARKS.md names,
-its code and read-only data are together no more than a note in docs/changes says, and as that page has them. The last line is 'N passed, M failed'.
+"""The size of the static library: what the names of four features share with a fifth stands in it once; it asks for nothing from outside but two
+functions of the C library; with the kit that docs/BENCHMARKS.md names, its code and read-only data are together no more than a note in docs/changes
+says, and as that page has them. The last line is 'N passed, M failed'.
 
 `size.py table` prints the table of docs/BENCHMARKS.md instead."""
 import re
@@ -12,6 +13,8 @@ from host import LIBRARY, ROOT
 
 # the first eight bytes of "sendrecv_v2", which the compiler keeps together in one number
 SHARED = b'sendrecv'
+# what a program that links the library has to bring
+OUTSIDE = {'memcpy', 'memset'}
 PARTS = ('code', 'read-only data', 'their sum', 'data that can change')
 
 
@@ -26,6 +29,12 @@ def parts():
         return sum(length for name, length in sections() if name.startswith(begins) and 'rel.ro' not in name)
     code, read_only, data = total('.text'), total('.rodata'), total('.data', '.bss')
     return dict(zip(PARTS, (code, read_only, code + read_only, data)))
+
+
+def outside():
+    """The names that the library takes from outside."""
+    said = subprocess.run(['nm', '-u', LIBRARY], check=True, capture_output=True, text=True).stdout
+    return set(re.findall(r'^ +U (\S+)$', said, re.M))
 
 
 def number(text):
@@ -60,6 +69,7 @@ def main():
     count, found = Count('size'), parts()
     times = LIBRARY.read_bytes().count(SHARED)
     count.check(times == 1, f'{SHARED.decode()} stands {times} times in the library, not once')
+    count.check(outside() <= OUTSIDE, f'the library asks for {sorted(outside() - OUTSIDE)} from outside')
     count.check(set(in_page()) == set(PARTS), f'docs/BENCHMARKS.md has {in_page()}')
     if kit_here() == kit_of_page():
         count.check(found['their sum'] <= in_notes(), f"{found['their sum']} bytes of code and read-only data; the notes allow {in_notes()}")

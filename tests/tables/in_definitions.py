@@ -12,6 +12,7 @@ TOLD, CROSSING, BOUNDARY, HEARD = specs('boundary', 'Told Crossing Boundary Hear
 ANSWERS, REFUSAL, IDS, MESSAGES, FEATURES, FLAGS = specs('protocol', 'Answers Refusal Ids Messages Features Flags')
 OPENING, REPORTS, HOST = specs('session', 'Calls Reports Host')
 FIELDS, = specs('record', 'Fields')
+READER = 'crates/request_reader/specs/Meaning.antt'
 MISUSE, = specs('boundary_misuse', 'Misuse')
 IDS_FILE, SETTINGS = specs('id_table', 'IdsFile Settings')
 INDEX, SLOTS, INDEX_CROSSING, INDEX_CLAIM = specs('time_index', 'Index Slots Crossing Claim')
@@ -21,7 +22,7 @@ HOURS, = specs('hours', 'Settings')
 TIMED, = specs('hours_totals', 'Crossing')
 CALENDAR, = specs('calendar', 'Crossing')
 EXPORTS = 'crates/exports_c/src/lib.rt'
-SOURCES = [TOLD, CROSSING, BOUNDARY, HEARD, ANSWERS, REFUSAL, IDS, MESSAGES, FEATURES, FLAGS, OPENING, REPORTS, HOST, FIELDS]
+SOURCES = [TOLD, CROSSING, BOUNDARY, HEARD, ANSWERS, REFUSAL, IDS, MESSAGES, FEATURES, FLAGS, OPENING, REPORTS, HOST, FIELDS, READER]
 SOURCES += [EXPORTS, MISUSE, IDS_FILE, SETTINGS, INDEX, SLOTS, INDEX_CROSSING, INDEX_CLAIM, PANEL, TOTALS, CARD, HOURS, TIMED, CALENDAR]
 
 # the definitions' words for the calls, and for some answers and kinds
@@ -62,6 +63,8 @@ REFUSALS = {
     'BAD_HOURS': (HOURS, r'bad_hours = (\d+)'),
     'OUTSIDE_HOURS': (REFUSAL, r'closed_hours = (\d+)'),
 }
+# a refusal whose number stands a second time, for the code: where the two differ it has none
+AGAIN = {'BAD_REQUEST': (READER, r'number \(Err Refused\) = (\d+)')}
 
 
 def calls(text):
@@ -95,7 +98,10 @@ def numbered(crossing):
 
 
 def answers(texts):
-    made = {name: int(m[1]) for name, (path, pattern) in REFUSALS.items() if (m := re.search(pattern, texts[path]))}
+    def refusals(places):
+        return {name: int(m[1]) for name, (path, pattern) in places.items() if (m := re.search(pattern, texts[path]))}
+    made, again = refusals(REFUSALS), refusals(AGAIN)
+    made = {name: number for name, number in made.items() if name not in AGAIN or again.get(name) == number}
     return made | not_refused(found(r'answer_number \(?A\.(?P<name>\w+)[^=\n]*= (?P<number>\d+)', texts[TOLD]))
 
 

@@ -44,14 +44,20 @@ pub fn i64_at(s: &[u8], off: usize) -> i64
 pub fn put_u32(out: &mut [u8], off: usize, x: u32)
     ensures { out.new ≡ put out.old off (bytes_of 4 x) }
 {
-    put_bytes(out, off, &x.to_le_bytes());
+    if out.len() < off || out.len() - off < 4 {
+        return;
+    }
+    out[off..off + 4].copy_from_slice(&x.to_le_bytes());
 }
 
 // The same with the eight bytes of x.
 pub fn put_u64(out: &mut [u8], off: usize, x: u64)
     ensures { out.new ≡ put out.old off (bytes_of 8 x) }
 {
-    put_bytes(out, off, &x.to_le_bytes());
+    if out.len() < off || out.len() - off < 8 {
+        return;
+    }
+    out[off..off + 8].copy_from_slice(&x.to_le_bytes());
 }
 
 // The bytes of src over those at off; nothing where they do not fit.
@@ -61,7 +67,10 @@ pub fn put_bytes(out: &mut [u8], off: usize, src: &[u8])
     if out.len() < off || out.len() - off < src.len() {
         return;
     }
-    out[off..off + src.len()].copy_from_slice(src);
+    // byte by byte: `copy_from_slice` of any length makes the library ask for `memmove`
+    for i in 0..src.len() {
+        out[off + i] = src[i];
+    }
 }
 
 // The numbers in eight bytes each over those at off; nothing where they do not fit.

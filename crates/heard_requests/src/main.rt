@@ -4,12 +4,15 @@
 #![tactic(auto)]
 
 use ids::Ids;
-use program_io::Hex;
+use program_io::digits;
 use recv_buf::RecvBuf;
 use request::Request;
 use request_reader::{Unread, lent_part, read_request};
 use std::io;
 use std::num::wrapping_add_u64;
+
+// How many bytes are printed by one write.
+const BLOCK: usize = 2048;
 
 // The next request can't be read.
 #[derive(Clone, Copy)]
@@ -22,33 +25,80 @@ struct State {
     at: u64,
 }
 
-fn print_request(rt: &impl Print, at: u64, q: Request, part: &[u8]) -> io::Result<()> {
-    let part = Hex(part);
-    match q {
-        Request::Stat => println!(rt; "{at},STAT,{part}"),
-        Request::Sta2 => println!(rt; "{at},STA2,{part}"),
-        Request::List => println!(rt; "{at},LIST,{part}"),
-        Request::Lis2 => println!(rt; "{at},LIS2,{part}"),
-        Request::Recv => println!(rt; "{at},RECV,{part}"),
-        Request::Rcv2(flags) => println!(rt; "{at},RCV2,{part},{}", flags.0),
-        Request::Send(mode) => println!(rt; "{at},SEND,{part},{}", mode.0),
-        Request::Snd2(mode, flags) => println!(rt; "{at},SND2,{part},{},{}", mode.0, flags.0),
-        Request::Data => println!(rt; "{at},DATA,{part}"),
-        Request::Done(mtime) => println!(rt; "{at},DONE,{mtime}"),
-        Request::Quit => println!(rt; "{at},QUIT"),
+// Each text is one write, and where it fails the next is tried all the same: a line by one `println!` would end there.
+fn print(rt: &impl Print, text: &[u8]) {
+    let _ = rt.write_all(text);
+}
+
+fn print_decimal(rt: &impl Print, n: u64) {
+    let _ = print!(rt; "{n}");
+}
+
+fn print_hex(rt: &impl Print, part: &[u8]) {
+    let mut block = [[0u8; 2]; BLOCK];
+    for bytes in part.chunks(BLOCK) {
+        for (pair, &b) in block.iter_mut().zip(bytes) {
+            *pair = digits(b);
+        }
+        let laid = block.get(..bytes.len()).unwrap_or(&[]);
+        print(rt, laid.as_flattened());
     }
+}
+
+fn print_number(rt: &impl Print, n: u32) {
+    print(rt, b",");
+    print_decimal(rt, n as u64);
+}
+
+// An id, and the path or the data behind it.
+fn print_lent(rt: &impl Print, id: &[u8], part: &[u8]) {
+    print(rt, id);
+    print(rt, b",");
+    print_hex(rt, part);
+}
+
+fn print_request(rt: &impl Print, q: Request, part: &[u8]) {
+    match q {
+        Request::Stat => print_lent(rt, b",STAT", part),
+        Request::Sta2 => print_lent(rt, b",STA2", part),
+        Request::List => print_lent(rt, b",LIST", part),
+        Request::Lis2 => print_lent(rt, b",LIS2", part),
+        Request::Recv => print_lent(rt, b",RECV", part),
+        Request::Rcv2(flags) => {
+            print_lent(rt, b",RCV2", part);
+            print_number(rt, flags.0);
+        }
+        Request::Send(mode) => {
+            print_lent(rt, b",SEND", part);
+            print_number(rt, mode.0);
+        }
+        Request::Snd2(mode, flags) => {
+            print_lent(rt, b",SND2", part);
+            print_number(rt, mode.0);
+            print_number(rt, flags.0);
+        }
+        Request::Data => print_lent(rt, b",DATA", part),
+        Request::Done(mtime) => {
+            print(rt, b",DONE");
+            print_number(rt, mtime);
+        }
+        Request::Quit => print(rt, b",QUIT"),
+    }
+    print(rt, b"\n");
 }
 
 // The request at the front of a stream, where it is there whole: how many bytes it has.
 fn print_next(rt: &impl Print, ids: Ids, at: u64, rest: &[u8]) -> Result<Option<usize>, Refused> {
     match read_request(ids, rest) {
         Ok(heard) => {
-            let _ = print_request(rt, at, heard.request, lent_part(rest, heard.lent));
+            print_decimal(rt, at);
+            print_request(rt, heard.request, lent_part(rest, heard.lent));
             Ok(Some(heard.size))
         }
         Err(Unread::More) => Ok(None),
         Err(Unread::Refused) => {
-            let _ = println!(rt; "{at},18");
+            print_decimal(rt, at);
+            print(rt, b",18\n");
             Err(Refused)
         }
     }
@@ -70,10 +120,12 @@ fn print_all(rt: &impl Print, ids: Ids, at: u64, unread: &[u8]) -> Result<usize,
 
 // The stream is at its end; a request that is not whole is said.
 fn finish(rt: &impl Print, s: State) {
-    let at = s.at;
     let held = s.buf.held();
     if 0 < held {
-        let _ = println!(rt; "{at},more,{held}");
+        print_decimal(rt, s.at);
+        print(rt, b",more,");
+        print_decimal(rt, held as u64);
+        print(rt, b"\n");
     }
 }
 
@@ -88,7 +140,8 @@ fn read_on(
     let count = match input.read(s.buf.window(buffer)) {
         Ok(count) => count,
         Err(_) => {
-            let _ = println!(rt; "{at},13");
+            print_decimal(rt, at);
+            print(rt, b",13\n");
             0
         }
     };

@@ -66,27 +66,31 @@ numbers-in s e =
       word_in s 56 (omega arith),
     )
 
--- what a fault says
+-- what a fault says, by its number
+pub refused-by : (vs : List (List ℕ)) (n : ℕ) → n ≡ fault_of (checked vs) → (n ≡ 0 → ⊥) → checked vs ≡ refused n
+refused-by vs n e f = go (checked vs) e
+  where
+    go : (r : IdsRead) → n ≡ fault_of r → r ≡ refused n
+    go (ids us) g = absurd (f g)
+    go (refused k) g = ap refused (sym g)
+
+pub taken-by : (vs : List (List ℕ)) (n : ℕ) → length vs ≡ count → n ≡ fault_of (checked vs) → n ≡ 0 → checked vs ≡ ids vs
+taken-by vs n fifteen e z = go (are_values vs) refl (two_equal vs) refl
+  where
+    go : (t : Bool) → are_values vs ≡ t → (u : Bool) → two_equal vs ≡ u → checked vs ≡ ids vs
+    go true h false k = checked-good vs fifteen h k
+    go true h true k = absurd (omega (arith, ap fault_of (checked-equal vs fifteen h k)))
+    go false h u k = absurd (omega (arith, ap fault_of (checked-bad vs h)))
+
+some-number : (w : IdsRefusal) → number_of w ≡ 0 → ⊥
+some-number Misplaced h = omega (arith, h)
+some-number BadForm h = omega (arith, h)
+some-number EqualValues h = omega (arith, h)
+
+-- the same of what the code answers
 module _ (vs : List (List ℕ)) (r : Result Unit IdsRefusal) (e : answer_of r ≡ fault_of (checked vs)) where
-  pub refused-by : (why : IdsRefusal) → r ≡ Err why → checked vs ≡ refused (number_of why)
-  refused-by why f = go (checked vs) (ap answer_of (sym f) ∙ e)
-    where
-      some : (w : IdsRefusal) → number_of w ≡ 0 → ⊥
-      some Misplaced h = omega (arith, h)
-      some BadForm h = omega (arith, h)
-      some EqualValues h = omega (arith, h)
+  pub refused_why : (why : IdsRefusal) → r ≡ Err why → checked vs ≡ refused (number_of why)
+  refused_why why f = refused-by vs (number_of why) (ap answer_of (sym f) ∙ e) (some-number why)
 
-      go : (q : IdsRead) → number_of why ≡ fault_of q → q ≡ refused (number_of why)
-      go (ids us) g = absurd (some why g)
-      go (refused k) g = ap refused (sym g)
-
-  pub taken-by : length vs ≡ count → (u : Unit) → r ≡ Ok u → checked vs ≡ ids vs
-  taken-by fifteen u f = go (are_values vs) refl (two_equal vs) refl
-    where
-      zero_fault : 0 ≡ fault_of (checked vs)
-      zero_fault = ap answer_of (sym f) ∙ e
-
-      go : (t : Bool) → are_values vs ≡ t → (u : Bool) → two_equal vs ≡ u → checked vs ≡ ids vs
-      go true h false k = checked-good vs fifteen h k
-      go true h true k = absurd (omega (arith, zero_fault, ap fault_of (checked-equal vs fifteen h k)))
-      go false h u k = absurd (omega (arith, zero_fault, ap fault_of (checked-bad vs h)))
+  pub taken_ok : length vs ≡ count → (u : Unit) → r ≡ Ok u → checked vs ≡ ids vs
+  taken_ok fifteen u f = taken-by vs 0 fifteen (ap answer_of (sym f) ∙ e) refl

@@ -1,21 +1,23 @@
-// What the programs share: bytes in hexadecimal, and an input that is read whole.
+// What the programs share: a byte in hexadecimal, and an input that is read whole.
 #![tactic(auto)]
 
-ghost use Rattle.std.specs.Prelude.{◌≤◌, length};
+ghost use Rattle.std.specs.Prelude.{◌≡◌, ◌∷◌, [], ◌/◌, ◌%◌, ◌<◌, ◌≤◌, length, true};
+ghost use Rattle.std.specs.Fmt.{digit_glyph};
 
-use std::{fmt, io};
+use std::io;
 
-// Bytes, printed as two capital digits each.
-#[derive(Clone, Copy)]
-pub struct Hex<'a>(pub &'a [u8]);
+fn digit(d: u8) -> u8
+    requires { d < 16 }
+    ensures { result ≡ digit_glyph true d }
+{
+    if d < 10 { b'0' + d } else { b'A' + (d - 10) }
+}
 
-impl fmt::Display for Hex<'_> {
-    fn fmt<W: fmt::Write>(&self, f: &mut fmt::Formatter<W>) -> fmt::Result {
-        for &b in self.0 {
-            write!(f, "{b:02X}")?;
-        }
-        Ok(())
-    }
+// A byte as two capital digits.
+pub fn digits(b: u8) -> [u8; 2]
+    ensures { result ≡ digit_glyph true (b / 16) ∷ digit_glyph true (b % 16) ∷ [] }
+{
+    [digit(b / 16), digit(b % 16)]
 }
 
 // Reads until buf is full, the input ends or a read fails: how many bytes came.

@@ -11,7 +11,7 @@ use features::Features;
 use format_flags::{FileMode, SyncFlags};
 use format_number::{put_bytes, u64_at};
 use ids::Ids;
-use program_io::{Hex, read_full};
+use program_io::{digits, read_full};
 use recv_buf::RecvBuf;
 use replay_records::{Kind, Record, decode, next};
 use request::Request;
@@ -19,10 +19,32 @@ use session::{Pending, Reply, Session, Stepped, Version};
 use session_calls::{next_entry, open, recv_next, start};
 use session_part::part;
 
+// ---- printing
+
+// Each text is one write, and where it fails the next is tried all the same: a line by one `println!` would end there.
+fn print(rt: &impl Print, text: &[u8]) {
+    let _ = rt.write_all(text);
+}
+
+fn print_decimal(rt: &impl Print, n: u64) {
+    let _ = print!(rt; "{n}");
+}
+
+fn print_hex(rt: &impl Print, bytes: &[u8]) {
+    for &b in bytes {
+        print(rt, &digits(b));
+    }
+}
+
+fn print_field(rt: &impl Print, n: u64) {
+    print(rt, b",");
+    print_decimal(rt, n);
+}
+
 // A line where the session does not do what was recorded.
 fn agree(rt: &impl Print, same: bool) {
     if !same {
-        let _ = println!(rt; "otherwise");
+        print(rt, b"otherwise\n");
     }
 }
 
@@ -148,9 +170,7 @@ fn carried(kind: u64, number: u32) -> usize
 
 fn print_part<'a>(rt: &impl Print, reply: Reply, rx: &'a [u8], msg: &'a [u8]) {
     match reply {
-        Reply::Told(a) => {
-            let _ = print!(rt; "{}", Hex(part(a, rx, msg)));
-        }
+        Reply::Told(a) => print_hex(rt, part(a, rx, msg)),
         _ => agree(rt, false),
     }
 }
@@ -159,13 +179,14 @@ fn print_answer<'a>(rt: &impl Print, reply: Reply, rx: &'a [u8], msg: &'a [u8]) 
     let mut words = [0u8; 128];
     let number = tell(reply, &mut words) / 256;
     let kind = u64_at(&words, 0);
-    let _ = print!(rt; "{number},{kind}");
+    print_decimal(rt, number as u64);
+    print_field(rt, kind);
     for i in 0..carried(kind, number) {
-        let _ = print!(rt; ",{}", u64_at(&words, 24 + 8 * i));
+        print_field(rt, u64_at(&words, 24 + 8 * i));
     }
-    let _ = print!(rt; ",");
+    print(rt, b",");
     print_part(rt, reply, rx, msg);
-    let _ = println!(rt; "");
+    print(rt, b"\n");
 }
 
 fn held(session: Session) -> usize {
@@ -174,7 +195,9 @@ fn held(session: Session) -> usize {
 
 // The list ends: how many bytes are held, and every byte of the receive buffer.
 fn print_end(rt: &impl Print, held: usize, rx: &[u8], all: &[u8]) {
-    let _ = println!(rt; "held,{held}");
+    print(rt, b"held,");
+    print_decimal(rt, held as u64);
+    print(rt, b"\n");
     agree(rt, rx == all);
 }
 

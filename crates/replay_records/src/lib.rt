@@ -3,6 +3,7 @@
 #![tactic(auto)]
 
 ghost use Rattle.std.specs.Prelude.{◌≡◌, ◌+◌, ◌-◌, ◌<◌, ◌≤◌, length};
+ghost use Rattle.replay_records.specs.Kinds.{byte_of};
 
 use format_number::{put_bytes, u32_at};
 use session::Fault;
@@ -139,19 +140,20 @@ pub enum Kind {
     Other,
 }
 
-impl From<u8> for Kind {
-    fn from(b: u8) -> Kind {
-        match b {
-            0 => Kind::Blank,
-            1 => Kind::List,
-            2 => Kind::Call,
-            3 => Kind::Read,
-            4 => Kind::Write,
-            5 => Kind::Close,
-            6 => Kind::Answer,
-            7 => Kind::End,
-            _ => Kind::Other,
-        }
+// A record's kind, by its first byte.
+fn kind_of(b: u8) -> Kind
+    ensures { (b ≤ 7 → byte_of result ≡ b) × (7 < b → byte_of result ≡ 8) }
+{
+    match b {
+        0 => Kind::Blank,
+        1 => Kind::List,
+        2 => Kind::Call,
+        3 => Kind::Read,
+        4 => Kind::Write,
+        5 => Kind::Close,
+        6 => Kind::Answer,
+        7 => Kind::End,
+        _ => Kind::Other,
     }
 }
 
@@ -281,7 +283,7 @@ pub fn next(s: &[u8], at: usize, lent: &mut [u8], spare: &mut [u8]) -> Record
     let mut rest = Rest {
         bytes: &s[at.min(s.len())..],
     };
-    let kind = Kind::from(rest.byte());
+    let kind = kind_of(rest.byte());
     let record = match kind {
         Kind::List => list(&mut rest, spare),
         Kind::Call => call(&mut rest, lent),

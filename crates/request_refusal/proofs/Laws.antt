@@ -3,6 +3,9 @@ use mathlib.Core.Bool.{Bool, false, ◌&&◌, not}
 use mathlib.Core.List.{List, ◌∷◌}
 use mathlib.Core.Option.{Option, none, some}
 use mathlib.Core.Path.{◌≡◌, refl}
+use Prim.Native.Nat.{ℕ, zero, suc, ◌<◌}
+use native.Mathlib.Nat.{not-suc-le-zero}
+use native.Mathlib.Omega.{arith}
 use lib.ListN.{get_or}
 use Rattle.std.specs.Prelude.{Result, Ok, Err, is_ok}
 use Rattle.features.specs.Meaning.{feature_number}
@@ -19,17 +22,25 @@ pub or_none : (a : Option Answer) → or_else a none ≡ a
 or_none none = refl
 or_none (some x) = refl
 
--- a feature, looked up by its number in a list that has the first at 1
-pub feature_at : (fs : List Bool) (needed : Bool) (f : Feature)
-    → feature_refusal fs needed (feature_number f) ≡ refuse (needed && not (get_or (false ∷ fs) (feature_number f) false)) (missing (feature_number f))
+-- feature n, looked up in a list that has the first at 1
+pub feature_at : (fs : List Bool) (needed : Bool) (n : ℕ) → 0 < n
+    → feature_refusal fs needed n ≡ refuse (needed && not (get_or (false ∷ fs) n false)) (missing n)
 unfolding feature_refusal
-feature_at fs needed StatV2 = refl
-feature_at fs needed LsV2 = refl
-feature_at fs needed SendRecvV2 = refl
-feature_at fs needed Brotli = refl
-feature_at fs needed Lz4 = refl
-feature_at fs needed Zstd = refl
-feature_at fs needed DryRunSend = refl
+feature_at fs needed zero h = absurd (not-suc-le-zero h)
+feature_at fs needed (suc n) h = refl
+
+some-feature : (f : Feature) → 0 < feature_number f
+some-feature StatV2 = omega arith
+some-feature LsV2 = omega arith
+some-feature SendRecvV2 = omega arith
+some-feature Brotli = omega arith
+some-feature Lz4 = omega arith
+some-feature Zstd = omega arith
+some-feature DryRunSend = omega arith
+
+pub feature_named : (fs : List Bool) (needed : Bool) (f : Feature)
+    → feature_refusal fs needed (feature_number f) ≡ refuse (needed && not (get_or (false ∷ fs) (feature_number f) false)) (missing (feature_number f))
+feature_named fs needed f = feature_at fs needed (feature_number f) (some-feature f)
 
 -- what is not refused
 pub ok-checked : (r : Result Unit Refusal) → is_ok r ≡ is_none (checked r)

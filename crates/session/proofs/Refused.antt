@@ -47,8 +47,11 @@ not_idle (Closing failed code) h = refl
 module _ (s : St) where
   -- j is the number of the definition
   module _ (o : Out) (j : ℕ) where
-    pub unless_out : (m : Misuse) → number_of m ≡ j → out (refusing s.ses (A.Refused (number_of m))) s.rx s.msg ≡ refused_or j s o
-    unless_out m e = rw (← e, lt-ltb 0 (number_of m) (some-number m))
+    pub unless_out : (k : ℕ) → k ≡ j → 0 < k → out (refusing s.ses (A.Refused k)) s.rx s.msg ≡ refused_or j s o
+    unless_out k e h = rw (← e, lt-ltb 0 k h)
+
+    pub misused_out : (m : Misuse) → number_of m ≡ j → out (refusing s.ses (A.Refused (number_of m))) s.rx s.msg ≡ refused_or j s o
+    misused_out m e = unless_out (number_of m) e (some-number m)
 
     pub unless_in : 0 ≡ j → o ≡ refused_or j s o
     unless_in e = rw (← e)

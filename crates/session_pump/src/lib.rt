@@ -7,6 +7,7 @@ ghost use Rattle.session.specs.State.{st, out, half, Fits};
 ghost use Rattle.session.specs.Steps.{reading, asked, kept, hop_out, hopped, read_on};
 ghost use Rattle.session.specs.Sends.{tidied};
 
+use format_number::put_bytes;
 use recv_buf::RecvBuf;
 use recv_buf_cursor::taking;
 use session::{Answer, Hop, Misuse, Pending, Phase, Reply, Session, Stepped, Then};
@@ -52,7 +53,7 @@ fn keep_text(rx: &[u8], head: usize, n: usize, msg: &mut [u8])
     requires { (head + n ≤ length rx.now) × (n ≤ length msg.old) }
     ensures { msg.new ≡ kept rx.now head n msg.old }
 {
-    msg[..n].copy_from_slice(&rx[head..head + n]);
+    put_bytes(msg, 0, &rx[head..head + n]);
 }
 
 // One turn at a phase: 17, or a read, or what the held bytes say. Hop and Then are no ControlFlow: `hop_out` and `followed` speak of them. The session

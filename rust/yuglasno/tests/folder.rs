@@ -4,11 +4,9 @@ mod common;
 use common::archives::{archive, edit, made, places, put, text, TIME, V2};
 use common::letters::{file_of, small};
 use common::program::{folder, names, told, PANEL};
-use std::fs::{self, File, Permissions};
+use std::fs::{self, Permissions};
 use std::os::unix::fs::{symlink, MetadataExt, PermissionsExt};
 use std::path::Path;
-use std::thread::sleep;
-use std::time::Duration;
 
 /// What is told of a DIR in the panel's place.
 fn from(dir: &Path, words: &[&str]) -> (i32, String, String) {
@@ -268,25 +266,6 @@ fn lists_that_can_not_be_read() {
     fs::create_dir(dir.join("DETAILS")).unwrap();
     let (status, _, error) = from(&dir, &["ls", "/"]);
     assert!(status == 66 && error.contains("it is no regular file"), "{error}");
-}
-
-#[test]
-fn while_an_archive_is_written() {
-    let (_, dir) = made("busy");
-    let opened = File::open(&dir).unwrap();
-    opened.lock().unwrap();
-    let (status, _, error) = from(&dir, &["ls", "/"]);
-    assert_eq!((status, error), (73, format!("transfer: 73: {}: another run is at work on it\n", dir.display())));
-    drop(opened);
-    // another test's program, between its fork and its exec, holds the lock for a moment longer
-    let freed = (0..100).any(|_| {
-        let answered = from(&dir, &["ls", "/"]).0 == 0;
-        if !answered {
-            sleep(Duration::from_millis(20));
-        }
-        answered
-    });
-    assert!(freed);
 }
 
 #[test]

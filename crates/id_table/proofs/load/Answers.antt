@@ -13,7 +13,7 @@ use Rattle.id_table.specs.Places.{fault_of, groups, line_size, file_size, formed
 use Rattle.id_table.specs.Settings.{loaded}
 use Rattle.id_table.proofs.Form.{read-places, formed-size, groups-length}
 use Rattle.id_table.proofs.Groups.{line-count, line-groups}
-use Rattle.id_table.proofs.Tables.{refused-by, taken-by}
+use Rattle.id_table.proofs.Tables.{refused_why, taken_ok}
 use Rattle.id_table.proofs.load.Goals.{Else-not-has_form, Start}
 use Rattle.id_table.proofs.load.Goals as goal
 
@@ -49,7 +49,7 @@ fault-requires c = let n = has-size (goal.at.fault-requires c).Else-not-has_form
 pub returns-in_err-fault : goal.returns-in_err-fault
 unfolding loaded
 returns-in_err-fault c =
-    let bad = refused-by (values (goal.at.returns-in_err-fault c).Start) c.fault.result (c.fault.ensures ∙ ap (λ (vs : List (List ℕ)). fault_of (checked vs)) (ap (map (take 4)) c.as_chunks.ensures.front ∙ line-groups c.args.file.now (has-size (goal.at.returns-in_err-fault c).Else-not-has_form))) _ c.in_err-fault.was in
+    let bad = refused_why (values (goal.at.returns-in_err-fault c).Start) c.fault.result (c.fault.ensures ∙ ap (λ (vs : List (List ℕ)). fault_of (checked vs)) (ap (map (take 4)) c.as_chunks.ensures.front ∙ line-groups c.args.file.now (has-size (goal.at.returns-in_err-fault c).Else-not-has_form))) _ c.in_err-fault.was in
     rw (eq-eqb _ _ c.if-settings-ne-SETTINGS.false, read-places c.args.file.now, has-form (goal.at.returns-in_err-fault c).Else-not-has_form, bad) (let p = err_from_is_err_and c.from_residual.result c.from_residual.ensures.1 in rw (p.1, p.2))
 
 pub copy_values-requires : goal.copy_values-requires
@@ -58,6 +58,6 @@ copy_values-requires c = (search rules, has-size (goal.at.copy_values-requires c
 pub returns : goal.returns
 unfolding loaded
 returns c =
-    let right = taken-by (values (goal.at.returns c).Start) c.fault.result (c.fault.ensures ∙ ap (λ (vs : List (List ℕ)). fault_of (checked vs)) (ap (map (take 4)) c.as_chunks.ensures.front ∙ line-groups c.args.file.now (has-size (goal.at.returns c).Else-not-has_form))) (groups-length 5 count _) _ c.in_ok-fault.was in
+    let right = taken_ok (values (goal.at.returns c).Start) c.fault.result (c.fault.ensures ∙ ap (λ (vs : List (List ℕ)). fault_of (checked vs)) (ap (map (take 4)) c.as_chunks.ensures.front ∙ line-groups c.args.file.now (has-size (goal.at.returns c).Else-not-has_form))) (groups-length 5 count _) _ c.in_ok-fault.was in
     rw (eq-eqb _ _ c.if-settings-ne-SETTINGS.false, read-places c.args.file.now, has-form (goal.at.returns c).Else-not-has_form, right)
     (ap (λ (l : List ℕ). (l, 0)) c.copy_values.ensures)

@@ -1,7 +1,7 @@
 -- `session_calls::next_entry` meets its contract.
 use Rattle.session_calls.proofs.Laws.{entry_in_lem}
 use Rattle.session_pump.proofs.Parts.{out_eq}
-use Rattle.session.proofs.Refused.{unless_out}
+use Rattle.session.proofs.Refused.{misused_out}
 use Rattle.session.specs.Calls.{guarded, entry_call}
 use Rattle.session.specs.State.{st}
 use Rattle.session.specs.Steps.{read_on}
@@ -14,7 +14,7 @@ use Rattle.session_calls.proofs.next_entry.Goals as goal
 
 pub returns-in-Err : goal.returns-in-Err
 unfolding entry_call
-returns-in-Err c = out_eq _ _ c.misused.ensures ∙ unless_out _ _ _ _ c.in-Err.ensures
+returns-in-Err c = out_eq _ _ c.misused.ensures ∙ misused_out _ _ _ _ c.in-Err.ensures
 
 pub returns : goal.returns
 returns c =

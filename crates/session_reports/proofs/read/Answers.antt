@@ -1,7 +1,7 @@
 -- `session_reports::read` meets its contract: refused by 3, 6 or 5, or as the pending step has it.
 use Rattle.session_pump.proofs.Parts.{out_eq}
 use Rattle.session_refusal.proofs.Laws.{admitted, reported}
-use Rattle.session.proofs.Refused.{unless_out}
+use Rattle.session.proofs.Refused.{misused_out}
 use Rattle.session.specs.Reports.{read_at, report_read}
 use Rattle.session.specs.State.{st}
 use Rattle.session.specs.declared.Pending.{Pending}
@@ -11,7 +11,7 @@ use Rattle.session_reports.proofs.read.Goals as goal
 
 pub returns-in-Err : goal.returns-in-Err
 unfolding report_read
-returns-in-Err c = out_eq _ _ c.misused.ensures ∙ unless_out _ _ _ _ c.in-Err.ensures
+returns-in-Err c = out_eq _ _ c.misused.ensures ∙ misused_out _ _ _ _ c.in-Err.ensures
 
 pub read_in-requires : goal.read_in-requires
 read_in-requires c =

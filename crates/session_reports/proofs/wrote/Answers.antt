@@ -1,7 +1,7 @@
 -- `session_reports::wrote` meets its contract: refused by 3, 6 or 5, or as the pending step has it.
 use Rattle.session_pump.proofs.Parts.{out_eq}
 use Rattle.session_refusal.proofs.Laws.{admitted, reported}
-use Rattle.session.proofs.Refused.{unless_out}
+use Rattle.session.proofs.Refused.{misused_out}
 use Rattle.session.proofs.Misfit.{guarded-in}
 use Rattle.session.specs.Reports.{wrote_at, report_wrote}
 use Rattle.session.specs.State.{st}
@@ -12,7 +12,7 @@ use Rattle.session_reports.proofs.wrote.Goals as goal
 
 pub returns-in-Err : goal.returns-in-Err
 unfolding report_wrote
-returns-in-Err c = out_eq _ _ c.misused.ensures ∙ unless_out _ _ _ _ c.in-Err.ensures
+returns-in-Err c = out_eq _ _ c.misused.ensures ∙ misused_out _ _ _ _ c.in-Err.ensures
 
 pub returns-in-Writing : goal.returns-in-Writing
 unfolding report_wrote wrote_at
